@@ -1,0 +1,37 @@
+-- Lists made from a function of the index, and the lists that `map` makes.
+use mathlib.Core.Path.{_≡_, refl, ap, sym, _∙_}
+use mathlib.Core.Logic.{_⊎_, inl, inr, ⊎-elim}
+use mathlib.Core.List.{List, [], _∷_, map, List·Memᴰ, List·Memᴰ·head, List·Memᴰ·tail, List·Memᴰ·not-nil, List·Memᴰ·cases-cons}
+use Prim.Native.Nat.{ℕ, zero, suc, _+_, _≤_, _<_}
+use native.Mathlib.Omega.{arith}
+use lib.ListN.{length, getD}
+
+module _ {A : Type 0} (g : ℕ → A) where
+  -- g at k, k + 1, .., n values in all
+  unfoldable pub from : ℕ → ℕ → List A
+  from k zero = []
+  from k (suc n) = g k ∷ from (suc k) n
+
+  -- g at 1, 2, .., n
+  abbrev pub upTo : ℕ → List A
+  upTo n = from 1 n
+
+  pub length-from : (k n : ℕ) → length (from k n) ≡ n
+  unfolding from
+  length-from k zero = refl
+  length-from k (suc n) = ap suc (length-from (suc k) n)
+
+  pub getD-from : (k n i : ℕ) (d : A) → i < n → getD (from k n) i d ≡ g (k + i)
+  unfolding from
+  getD-from k zero i d h = absurd (omega arith)
+  getD-from k (suc n) zero d h = ap g (omega arith)
+  getD-from k (suc n) (suc i) d h = getD-from (suc k) n i d (omega arith) ∙ ap g (omega arith)
+
+module _ {A B : Type 0} (f : A → B) where
+  pub mem-map : (l : List A) (x : A) → List·Memᴰ x l → List·Memᴰ (f x) (map f l)
+  mem-map [] x m = absurd (List·Memᴰ·not-nil m)
+  mem-map (y ∷ l) x m = ⊎-elim (λ e. List·Memᴰ·head (ap f e)) (λ k. List·Memᴰ·tail (mem-map l x k)) (List·Memᴰ·cases-cons m)
+
+  pub map-mem : (l : List A) (y : B) → List·Memᴰ y (map f l) → (x : A) × List·Memᴰ x l × (y ≡ f x)
+  map-mem [] y m = absurd (List·Memᴰ·not-nil m)
+  map-mem (x ∷ l) y m = ⊎-elim (λ e. (x, List·Memᴰ·head refl, e)) (λ k. let w = map-mem l y k in (w .0, List·Memᴰ·tail (w .1), w .2)) (List·Memᴰ·cases-cons m)

@@ -1,0 +1,57 @@
+-- The first element of a list that passes a test, and what it says that there is one, or none.
+use mathlib.Core.Path.{_≡_, refl, ap, _∙_}
+use mathlib.Core.Bool.{Bool, true, false, _||_, cond}
+use mathlib.Core.Logic.{_⊎_, inl, inr, ⊎-elim}
+use mathlib.Core.Option.{Option, none, some}
+use mathlib.Core.List.{List, [], _∷_, List·Memᴰ, List·Memᴰ·head, List·Memᴰ·tail, List·Memᴰ·not-nil, List·Memᴰ·cases-cons}
+use Prim.Native.Nat.{ℕ, zero, suc}
+use Rattle.general.specs.Booleans.{true-not-false}
+
+module _ {A : Type 0} (test : A → Bool) where
+  unfoldable pub find : List A → Option A
+  find [] = none
+  find (x ∷ l) = cond (test x) (some x) (find l)
+
+  unfoldable pub any : List A → Bool
+  any [] = false
+  any (x ∷ l) = test x || any l
+
+  -- what the answer says: none passes, or an element that passes
+  abbrev pub Finds : List A → Option A → Type 0
+  Finds l none = (y : A) → List·Memᴰ y l → test y ≡ false
+  Finds l (some y) = List·Memᴰ y l × (test y ≡ true)
+
+  pub find-finds : (l : List A) → Finds l (find l)
+  unfolding find
+  find-finds [] = λ y m. absurd (List·Memᴰ·not-nil m)
+  find-finds (x ∷ l) = go (test x) refl (find l) (find-finds l)
+    where
+      go : (b : Bool) → test x ≡ b → (o : Option A) → Finds l o → Finds (x ∷ l) (cond b (some x) o)
+      go true e o w = (List·Memᴰ·head refl, e)
+      go false e none w = λ y m. ⊎-elim (λ q. ap test q ∙ e) (w y) (List·Memᴰ·cases-cons m)
+      go false e (some y) w = (List·Memᴰ·tail (w .0), w .1)
+
+  pub find-none : (l : List A) → find l ≡ none → (y : A) → List·Memᴰ y l → test y ≡ false
+  find-none l e = rw e at (find-finds l)
+
+  pub find-some : (l : List A) (y : A) → find l ≡ some y → List·Memᴰ y l × (test y ≡ true)
+  find-some l y e = rw e at (find-finds l)
+
+  pub any-true : (l : List A) → any l ≡ true → (x : A) × List·Memᴰ x l × (test x ≡ true)
+  unfolding any
+  any-true [] e = absurd (true-not-false e refl)
+  any-true (x ∷ l) e = go (test x) refl (any-true l) e
+    where
+      go : (b : Bool) → test x ≡ b → (any l ≡ true → (y : A) × List·Memᴰ y l × (test y ≡ true)) → (b || any l) ≡ true → (y : A) × List·Memᴰ y (x ∷ l) × (test y ≡ true)
+      go true q ih h = (x, List·Memᴰ·head refl, q)
+      go false q ih h = let w = ih h in (w .0, List·Memᴰ·tail (w .1), w .2)
+
+  pub any-intro : (l : List A) (x : A) → List·Memᴰ x l → test x ≡ true → any l ≡ true
+  unfolding any
+  any-intro [] x m e = absurd (List·Memᴰ·not-nil m)
+  any-intro (y ∷ l) x m e = go (test y) refl (List·Memᴰ·cases-cons m) (any-intro l x)
+    where
+      go : (b : Bool) → test y ≡ b → (x ≡ y) ⊎ List·Memᴰ x l → (List·Memᴰ x l → test x ≡ true → any l ≡ true) → (b || any l) ≡ true
+      go true q m ih = refl
+      go false q (inl p) ih = absurd (true-not-false e (ap test p ∙ q))
+      go false q (inr k) ih = ih k e

@@ -1,0 +1,10 @@
+pub mod Formula
+pub mod Order
+pub mod Table
+pub mod State
+pub mod Rules
+pub mod Propagation
+pub mod Tree
+pub mod Bound
+pub mod Search
+pub mod Filings

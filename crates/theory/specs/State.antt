@@ -1,0 +1,53 @@
+-- States of propagation (settling) as substitutions, and a clause as it stands in a state.
+use mathlib.Core.Path.{_≡_}
+use mathlib.Core.Bool.{Bool, true, false, cond}
+use mathlib.Core.List.{List, [], _∷_}
+use Prim.Native.Nat.{ℕ, zero, suc, _+_, _≤_, _<_}
+use lib.Dec.{eqb, ltb}
+use Rattle.general.specs.Booleans.{bit}
+use Rattle.literal.specs.Literal.{Literal, pos, neg, TRUE, FALSE, var, opposite, same}
+use Rattle.theory.specs.Formula.{Clause, Formula}
+
+-- "A state says of each placement: taken, left out, open, or tied to a lower open placement as equal or opposite":
+-- TRUE, FALSE, pos p itself, or pos r or neg r of that lower one
+abbrev pub State : Type 0
+State = ℕ → Literal
+
+-- everything is open
+abbrev pub initial : State
+initial p = pos p
+
+abbrev pub value : State → Literal → Literal
+value s (pos p) = s p
+value s (neg p) = opposite (s p)
+
+-- x becomes t, and its opposite the opposite of t
+abbrev pub replace : Literal → Literal → Literal → Literal
+replace x t l = cond (same l x) t (cond (same l (opposite x)) (opposite t) l)
+
+-- the one operation of all rules and splits: an open literal becomes t, and "followers move with it"
+abbrev pub assign : Literal → Literal → State → State
+assign x t s p = replace x t (s p)
+
+-- a literal as it stands in front of a clause: "false entries dropped"
+abbrev pub stand : Literal → Clause → Clause
+stand l c = cond (same l FALSE) c (l ∷ c)
+
+-- "A group as it stands has tied entries replaced and false entries dropped"
+unfoldable pub standing : State → Clause → Clause
+standing s [] = []
+standing s (l ∷ c) = stand (value s l) (standing s c)
+
+-- of the literals that stand in a clause, those that are not TRUE are open
+abbrev pub isOpen : Literal → Bool
+isOpen l = ltb 0 (var l)
+
+-- how many of 1 to n are open
+unfoldable pub opens : State → ℕ → ℕ
+opens s zero = 0
+opens s (suc n) = bit (same (s (suc n)) (pos (suc n))) + opens s n
+
+-- every variable stands for a root no higher than itself, and a root for itself; the constant is the lowest root
+pub record WellFormed (s : State) : Type 0 where
+  pub low : (p : ℕ) → var (s p) ≤ p
+  pub root : (p : ℕ) → s (var (s p)) ≡ pos (var (s p))
