@@ -1,1 +1,3 @@
+pub mod Literals
+pub mod States
 pub mod Filings

@@ -47,7 +47,9 @@ unfoldable pub opens : State → ℕ → ℕ
 opens s zero = 0
 opens s (suc n) = bit (same (s (suc n)) (pos (suc n))) + opens s n
 
--- every variable stands for a root no higher than itself, and a root for itself; the constant is the lowest root
-pub record WellFormed (s : State) : Type 0 where
+-- what settling keeps of a state of n variables: each stands for a literal of a variable no higher than itself, which stands for itself;
+-- what lies past n is open
+pub record WellFormed (n : ℕ) (s : State) : Type 0 where
   pub low : (p : ℕ) → var (s p) ≤ p
-  pub root : (p : ℕ) → s (var (s p)) ≡ pos (var (s p))
+  pub fixed : (p : ℕ) → value s (s p) ≡ s p
+  pub beyond : (p : ℕ) → n < p → s p ≡ pos p

@@ -1,0 +1,58 @@
+-- Laws of literals: equality, opposites and variables.
+use mathlib.Core.Path.{_≡_, refl, ap, sym, _∙_}
+use mathlib.Core.Bool.{Bool, true, false}
+use mathlib.Core.Logic.{_⊎_, inl, inr, _≢_, ⊎-elim}
+use Prim.Native.Nat.{ℕ, zero, suc, _<_, _≤_}
+use native.Mathlib.Omega.{arith}
+use native.Mathlib.Decide.{ℕ-discrete}
+use lib.Dec.{eqb}
+use borrow.Author.Tests.{eqb-true, eqb-false, eq-eqb, ne-eqb}
+use Rattle.general.specs.Booleans.{true-not-false, bool-cases}
+use Rattle.literal.specs.Literal.{Literal, pos, neg, TRUE, FALSE, var, opposite, same}
+
+pub opposite-opposite : (l : Literal) → opposite (opposite l) ≡ l
+opposite-opposite (pos p) = refl
+opposite-opposite (neg p) = refl
+
+pub var-opposite : (l : Literal) → var (opposite l) ≡ var l
+var-opposite (pos p) = refl
+var-opposite (neg p) = refl
+
+pub opposite-ne : (l : Literal) → opposite l ≢ l
+opposite-ne (pos p) e = let z : _≡_ {A = ℕ} 0 1 = cc in omega arith
+opposite-ne (neg p) e = let z : _≡_ {A = ℕ} 0 1 = cc in omega arith
+
+pub opposite-injective : (x y : Literal) → opposite x ≡ opposite y → x ≡ y
+opposite-injective x y e = sym (opposite-opposite x) ∙ ap opposite e ∙ opposite-opposite y
+
+pub same-true : (x y : Literal) → same x y ≡ true → x ≡ y
+same-true (pos p) (pos q) e = ap pos (eqb-true p q e)
+same-true (pos p) (neg q) e = absurd (true-not-false e refl)
+same-true (neg p) (pos q) e = absurd (true-not-false e refl)
+same-true (neg p) (neg q) e = ap neg (eqb-true p q e)
+
+pub same-refl : (x : Literal) → same x x ≡ true
+same-refl (pos p) = eq-eqb p p refl
+same-refl (neg p) = eq-eqb p p refl
+
+pub same-false : (x y : Literal) → same x y ≡ false → x ≢ y
+same-false x y e q = true-not-false (rw q (same-refl y)) e
+
+pub same-ne : (x y : Literal) → x ≢ y → same x y ≡ false
+same-ne x y h = ⊎-elim (λ e. absurd (h (same-true x y e))) (λ e. e) (bool-cases (same x y))
+
+pub literal-cases : (x y : Literal) → (x ≡ y) ⊎ (x ≢ y)
+literal-cases x y = ⊎-elim (λ e. inl (same-true x y e)) (λ e. inr (same-false x y e)) (bool-cases (same x y))
+
+pub of-variable : (x y : Literal) → var x ≡ var y → (x ≡ y) ⊎ (x ≡ opposite y)
+of-variable (pos p) (pos q) e = inl (ap pos e)
+of-variable (pos p) (neg q) e = inr (ap pos e)
+of-variable (neg p) (pos q) e = inr (ap neg e)
+of-variable (neg p) (neg q) e = inl (ap neg e)
+
+-- the three ways in which two literals can stand to each other
+pub relation : (x y : Literal) → (x ≡ y) ⊎ ((x ≡ opposite y) ⊎ (var x ≢ var y))
+relation x y = elim (ℕ-discrete (var x) (var y)) [ yes e ↦ ⊎-elim inl (λ q. inr (inl q)) (of-variable x y e) | no h ↦ inr (inr h) ]
+
+pub constant : (x : Literal) → var x ≡ 0 → (x ≡ TRUE) ⊎ (x ≡ FALSE)
+constant x e = of-variable x TRUE e
