@@ -35,3 +35,21 @@ module _ {A B : Type 0} (f : A → B) where
   pub map-mem : (l : List A) (y : B) → List·Memᴰ y (map f l) → (x : A) × List·Memᴰ x l × (y ≡ f x)
   map-mem [] y m = absurd (List·Memᴰ·not-nil m)
   map-mem (x ∷ l) y m = ⊎-elim (λ e. (x, List·Memᴰ·head refl, e)) (λ k. let w = map-mem l y k in (w .0, List·Memᴰ·tail (w .1), w .2)) (List·Memᴰ·cases-cons m)
+
+-- x stands before y in a list
+module _ {A : Type 0} where
+  pub data Before (x y : A) : List A → Type 0 where
+    here : {l : List A} → List·Memᴰ y l → Before x y (x ∷ l)
+    later : {z : A} {l : List A} → Before x y l → Before x y (z ∷ l)
+
+  pub before-left : {x y : A} {l : List A} → Before x y l → List·Memᴰ x l
+  before-left (here m) = List·Memᴰ·head refl
+  before-left (later b) = List·Memᴰ·tail (before-left b)
+
+  pub before-right : {x y : A} {l : List A} → Before x y l → List·Memᴰ y l
+  before-right (here m) = List·Memᴰ·tail m
+  before-right (later b) = List·Memᴰ·tail (before-right b)
+
+pub before-map : {A B : Type 0} (f : A → B) {x y : A} {l : List A} → Before x y l → Before (f x) (f y) (map f l)
+before-map f {y = y} (here {l = l} m) = here (mem-map f l y m)
+before-map f (later b) = later (before-map f b)

@@ -14,11 +14,17 @@ unfoldable pub _≼_ : Choice → Choice → Type 0
 (true ∷ c) ≼ (true ∷ d) = c ≼ d
 
 infix 40 _≼_
-pub record First (P : Choice → Type 0) (c : Choice) : Type 0 where
-  pub member : P c
-  pub least : (d : Choice) → P d → c ≼ d
+module _ {A : Type 0} (Le : A → A → Type 0) where
+  -- a has the property, and whatever else has it is a or comes after it
+  pub record Least (P : A → Type 0) (a : A) : Type 0 where
+    pub member : P a
+    pub least : (b : A) → P b → Le a b
 
--- the answer is the first choice with the property, or none where no choice has it
+  -- the answer is the least with the property, or none where nothing has it
+  abbrev pub IsLeast : (A → Type 0) → Option A → Type 0
+  IsLeast P none = (a : A) → ¬ P a
+  IsLeast P (some a) = Least P a
+
+-- "it is the first such choice": the first of the solutions of a formula, or none where it has no solution
 abbrev pub IsFirst : (Choice → Type 0) → Option Choice → Type 0
-IsFirst P none = (c : Choice) → ¬ P c
-IsFirst P (some c) = First P c
+IsFirst P o = IsLeast _≼_ P o
