@@ -39,6 +39,13 @@ and-true false b e = absurd (true-not-false e refl)
 pub and-intro : {a b : Bool} → a ≡ true → b ≡ true → (a && b) ≡ true
 and-intro p q = rw (p, q)
 
+pub or-left : {a : Bool} (b : Bool) → a ≡ true → (a || b) ≡ true
+or-left b p = rw p
+
+pub or-true : (a b : Bool) → (a || b) ≡ true → (a ≡ true) ⊎ (b ≡ true)
+or-true true b e = inl refl
+or-true false b e = inr e
+
 -- a choice has what both sides have
 module _ {A : Type 0} (P : A → Type 0) (x y : A) where
   pub cond-ind : (b : Bool) → (b ≡ true → P x) → (b ≡ false → P y) → P (cond b x y)
