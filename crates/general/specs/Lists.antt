@@ -49,7 +49,3 @@ module _ {A : Type 0} where
   pub before-right : {x y : A} {l : List A} → Before x y l → List·Memᴰ y l
   before-right (here m) = List·Memᴰ·tail m
   before-right (later b) = List·Memᴰ·tail (before-right b)
-
-pub before-map : {A B : Type 0} (f : A → B) {x y : A} {l : List A} → Before x y l → Before (f x) (f y) (map f l)
-before-map f {y = y} (here {l = l} m) = here (mem-map f l y m)
-before-map f (later b) = later (before-map f b)

@@ -48,11 +48,11 @@ NoFalse c = (x : Literal) → List·Memᴰ x c → x ≢ FALSE
 -- from quiet to closed -------------------------------------------------------------------------------------------
 
 -- neither true nor false
-open-of : (x : Literal) → x ≢ TRUE → x ≢ FALSE → 0 < var x
+pub open-of : (x : Literal) → x ≢ TRUE → x ≢ FALSE → 0 < var x
 open-of x t f = elim (ℕ-discrete (var x) 0) [ yes e ↦ absurd (⊎-elim t f (constant x e)) | no h ↦ omega arith ]
 
-not-true : (c : Clause) (x : Literal) → occurs TRUE c ≡ 0 → List·Memᴰ x c → x ≢ TRUE
-not-true c x z m e = let h : 0 < occurs TRUE c = rw (← e) (mem-occurs c x m) in omega arith
+pub not-true-of : (c : Clause) (x : Literal) → occurs TRUE c ≡ 0 → List·Memᴰ x c → x ≢ TRUE
+not-true-of c x z m e = let h : 0 < occurs TRUE c = rw (← e) (mem-occurs c x m) in omega arith
 
 -- one true, and nothing open or false
 all-true : (c : Clause) → ((x : Literal) → List·Memᴰ x c → x ≡ TRUE) → occurs TRUE c ≡ 1 → c ≡ TRUE ∷ []
@@ -73,7 +73,7 @@ module _ (c : Clause) (no-false : NoFalse c) (q : Quiet c) (none-true : occurs T
   silent = eq-eqb (occurs TRUE c) 0 none-true
 
   quiet-opened : (x : Literal) → List·Memᴰ x c → 0 < var x
-  quiet-opened x m = open-of x (not-true c x none-true m) (no-false x m)
+  quiet-opened x m = open-of x (not-true-of c x none-true m) (no-false x m)
 
   quiet-once : (x : Literal) → occurs x c ≤ 1
   quiet-once x = elim (decLe (occurs x c) 1) [

@@ -2,6 +2,7 @@ pub mod Literals
 pub mod States
 pub mod Clauses
 pub mod Closed
+pub mod Asks
 pub mod Bound
 pub mod Tree
 pub mod Budget
