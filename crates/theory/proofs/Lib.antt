@@ -3,6 +3,7 @@ pub mod States
 pub mod Clauses
 pub mod Closed
 pub mod Asks
+pub mod Forced
 pub mod Bound
 pub mod Tree
 pub mod Budget
