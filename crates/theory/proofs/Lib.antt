@@ -4,6 +4,8 @@ pub mod Clauses
 pub mod Closed
 pub mod Asks
 pub mod Forced
+pub mod Propagation
+pub mod Solutions
 pub mod Bound
 pub mod Tree
 pub mod Budget

@@ -6,7 +6,7 @@ use Prim.Native.Nat.{ℕ, zero, suc, _+_, _≤_, _<_}
 use lib.Dec.{eqb, ltb}
 use Rattle.general.specs.Booleans.{bit}
 use Rattle.literal.specs.Literal.{Literal, pos, neg, TRUE, FALSE, var, opposite, same}
-use Rattle.theory.specs.Formula.{Clause, Formula}
+use Rattle.theory.specs.Formula.{Clause, Assignment, holds}
 
 -- "A state says of each placement: taken, left out, open, or tied to a lower open placement as equal or opposite":
 -- TRUE, FALSE, pos p itself, or pos r or neg r of that lower one
@@ -46,6 +46,10 @@ isOpen l = ltb 0 (var l)
 unfoldable pub opens : State → ℕ → ℕ
 opens s zero = 0
 opens s (suc n) = bit (same (s (suc n)) (pos (suc n))) + opens s n
+
+-- an assignment does what the state says: a taken placement has 1, a tied one its root's value or the opposite
+pub record Agrees (a : Assignment) (s : State) : Type 0 where
+  pub at : (p : ℕ) → a p ≡ holds a (s p)
 
 -- what settling keeps of a state of n variables: each stands for a literal of a variable no higher than itself, which stands for itself;
 -- what lies past n is open
