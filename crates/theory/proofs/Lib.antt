@@ -9,4 +9,9 @@ pub mod Solutions
 pub mod Bound
 pub mod Tree
 pub mod Budget
+pub mod Order
+pub mod Agreement
+pub mod Live
+pub mod Leaves
+pub mod Branching
 pub mod Filings

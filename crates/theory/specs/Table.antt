@@ -25,7 +25,7 @@ unfoldable pub nonzeros : List ℤ → ℕ
 nonzeros [] = 0
 nonzeros (e ∷ t) = bit (not (closes e)) + nonzeros t
 
--- "A non-empty table ends in 0": e is the last element so far
+-- "A non-empty table ends in 0": b says whether the element before is an entry
 unfoldable pub endsOpen : Bool → List ℤ → Bool
 endsOpen b [] = b
 endsOpen b (e ∷ t) = endsOpen (not (closes e)) t

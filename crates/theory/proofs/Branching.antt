@@ -1,0 +1,118 @@
+-- What is decided of a state that no rule fits is right about its first solution: the choice of a leaf, or the two sides of a split.
+use mathlib.Core.Path.{_≡_, refl, sym, _∙_}
+use mathlib.Core.Bool.{true, false, cond}
+use mathlib.Core.Logic.{inl, inr, ⊎-elim}
+use mathlib.Core.Option.{Option, none, some}
+use mathlib.Core.List.{List·Memᴰ}
+use Prim.Native.Nat.{ℕ, _<_, _≤_}
+use native.Mathlib.Omega.{arith}
+use native.Mathlib.Decide.{decLt}
+use lib.Dec.{eqb, ltb}
+use borrow.Author.Tests.{eqb-true, lt-ltb, le-ltb}
+use Rattle.general.specs.Booleans.{bool-cases, true-not-false}
+use Rattle.literal.specs.Literal.{Literal, pos, TRUE, FALSE, var}
+use Rattle.theory.specs.Formula.{Clause, Formula, Assignment, Choice, assignment, Within}
+use Rattle.theory.specs.Order.{_≼_, Least, IsLeast}
+use Rattle.theory.specs.State.{State, assign, standing, opens, WellFormed}
+use Rattle.theory.specs.Search.{branchVariable, splitOn}
+use Rattle.theory.proofs.States.{Fixed, well-based, base-true, base-false, Valid, assign-well, opens-assign}
+use Rattle.theory.proofs.Closed.{Closed}
+use Rattle.theory.proofs.Order.{≼-trans}
+use Rattle.theory.proofs.Agreement.{Extends, count-alike, count-standing, extends-assign}
+use Rattle.theory.proofs.Live.{InLive, in-live, live-positive, live-root, live-inside, branch-least}
+use Rattle.theory.proofs.Leaves.{choiceFrom, ≼-roots, choice-root, choice-extends, leaf-first}
+use Rattle.theory.proofs.Tree.{Branches, Means}
+
+-- a with all variables below p left out
+abbrev cleared : Assignment → ℕ → Assignment
+cleared a p q = cond (ltb q p) (eqb q 0) (a q)
+
+cleared-below : (a : Assignment) (p q : ℕ) → q < p → cleared a p q ≡ eqb q 0
+cleared-below a p q h = rw (lt-ltb q p h)
+
+cleared-from : (a : Assignment) (p q : ℕ) → p ≤ q → cleared a p q ≡ a q
+cleared-from a p q h = rw (le-ltb q p h)
+
+module _ {n : ℕ} {f : Formula} {s : State} (w : WellFormed n s) (within : Within n f) (closed : (c : Clause) → List·Memᴰ c f → Closed (standing s c)) where
+  -- p is the variable to split on
+  module _ (p : ℕ) (b : Least _≤_ (InLive f s) p) where
+    positive : 0 < p
+    positive = live-positive (b .member)
+
+    inside : p ≤ n
+    inside = live-inside w within (b .member)
+
+    root : s p ≡ pos p
+    root = live-root w within (b .member)
+
+    -- clearing the open variables below p keeps a solution, since they stand in no live clause
+    cleared-extends : (c : Choice) → Extends n f s c → Extends n f s (choiceFrom n s (cleared (assignment c) p))
+    cleared-extends c e = choice-extends w within closed (cleared (assignment c) p) (cleared-below (assignment c) p 0 positive) (λ d m k.
+        count-alike (cleared (assignment c) p) (assignment c) (standing s d)
+        (λ l h. cleared-from (assignment c) p (var l) (b .least (var l) (in-live d m k l h))) ∙
+        count-standing (e .agrees) refl d ∙
+        e .solves .satisfies d m)
+
+    branch-before : (c d : Choice) → Least _≼_ (Extends n f (assign (pos p) FALSE s)) c → Extends n f (assign (pos p) TRUE s) d → c ≼ d
+    branch-before c d first taken = ≼-trans c e d
+        (first .least e (extends-assign s (pos p) FALSE root n f e .1 (still, left-out)))
+        (≼-roots w e d (still .solves .long) (right .0 .solves .long) (still .agrees) (right .0 .agrees) follows)
+      where
+        left : Extends n f s c × (assignment c p ≡ false)
+        left = extends-assign s (pos p) FALSE root n f c .0 (first .member)
+
+        right : Extends n f s d × (assignment d p ≡ true)
+        right = extends-assign s (pos p) TRUE root n f d .0 taken
+
+        v : Assignment
+        v = cleared (assignment c) p
+
+        e : Choice
+        e = choiceFrom n s v
+
+        still : Extends n f s e
+        still = cleared-extends c (left .0)
+
+        at-root : (q : ℕ) → s q ≡ pos q → q ≤ n → assignment e q ≡ v q
+        at-root = choice-root w v (cleared-below (assignment c) p 0 positive)
+
+        left-out : assignment e p ≡ false
+        left-out = at-root p root inside ∙ cleared-from (assignment c) p p (omega arith) ∙ left .1
+
+        follows : (q : ℕ) → 0 < q → q ≤ n → s q ≡ pos q → ((r : ℕ) → r < q → assignment e r ≡ assignment d r) → assignment e q ≡ true → assignment d q ≡ true
+        follows q low high r alike one = elim (decLt q p) [
+          | yes h ↦ absurd (omega (arith, eqb-true q 0 (sym (at-root q r high ∙ cleared-below (assignment c) p q h) ∙ one)))
+          | no h ↦ elim (decLt p q) [
+            | yes k ↦ absurd (true-not-false (alike p k ∙ right .1) left-out)
+            | no k ↦ let same : q ≡ p = omega arith in rw same (right .1)
+          ]
+        ]
+
+    valid : (t : Literal) → Fixed s t → var t ≡ 0 → Valid n s (pos p) t
+    valid t e z = record { fixed-x = root; fixed-t = e; lower = omega (arith, positive); inside = inside }
+
+    pub branch-branches : Branches (WellFormed n) (λ u. opens u n) (Extends n f) _≼_ s (assign (pos p) FALSE s) (assign (pos p) TRUE s)
+    branch-branches = record {
+      good-left = assign-well w left-out;
+      good-right = assign-well w taken;
+      less-left = omega (arith, opens-assign w left-out n positive inside);
+      less-right = omega (arith, opens-assign w taken n positive inside);
+      into = λ c e. ⊎-elim (λ h. inr (extends-assign s (pos p) TRUE root n f c .1 (e, h))) (λ h. inl (extends-assign s (pos p) FALSE root n f c .1 (e, h)))
+          (bool-cases (assignment c p));
+      from-left = λ c e. extends-assign s (pos p) FALSE root n f c .0 e .0;
+      from-right = λ c e. extends-assign s (pos p) TRUE root n f c .0 e .0;
+      before = branch-before;
+    }
+      where
+        left-out : Valid n s (pos p) FALSE
+        left-out = valid FALSE (base-false (well-based w)) refl
+
+        taken : Valid n s (pos p) TRUE
+        taken = valid TRUE (base-true (well-based w)) refl
+
+  pub splitOn-means : Means (WellFormed n) (λ u. opens u n) (Extends n f) _≼_ s (splitOn n s (branchVariable f s))
+  splitOn-means = go (branchVariable f s) (branch-least f s closed)
+    where
+      go : (o : Option ℕ) → IsLeast _≤_ (InLive f s) o → Means (WellFormed n) (λ u. opens u n) (Extends n f) _≼_ s (splitOn n s o)
+      go none h = leaf-first w within closed h
+      go (some p) h = branch-branches p h
