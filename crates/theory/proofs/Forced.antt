@@ -119,7 +119,7 @@ module _ {u : State} (base : Based u) where
         (literal-cases (value u x) FALSE)
 
     -- beside a literal that is true any other is false
-    beside-true : (x y : Literal) → List·Memᴰ x c → List·Memᴰ y c → x ≢ y → value u y ≡ TRUE → value u x ≡ FALSE
+    pub beside-true : (x y : Literal) → List·Memᴰ x c → List·Memᴰ y c → x ≢ y → value u y ≡ TRUE → value u x ≡ FALSE
     beside-true x y mx my d e = ⊎-elim (λ q. q)
         (λ (h : value u x ≢ FALSE).
         let t : List·Memᴰ TRUE (standing u c) = rw e at (image y my (λ q. TRUE-not-FALSE (sym e ∙ q))) in

@@ -14,4 +14,7 @@ pub mod Agreement
 pub mod Live
 pub mod Leaves
 pub mod Branching
+pub mod Splits
+pub mod Tables
+pub mod Demands
 pub mod Filings
