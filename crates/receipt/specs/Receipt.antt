@@ -9,6 +9,10 @@ use Rattle.receipt.specs.declared.Settling.{Settling}
 use Rattle.receipt.specs.declared.Settling.the-variants as settling
 use Rattle.receipt.specs.declared.Searching.{Searching}
 use Rattle.receipt.specs.declared.Searching.the-variants as searching
+use Rattle.receipt.specs.declared.Adding.{Adding}
+use Rattle.receipt.specs.declared.Adding.the-variants as adding
+use Rattle.receipt.specs.declared.Reading.{Reading}
+use Rattle.receipt.specs.declared.Reading.the-variants as reading
 
 abbrev pub numberOf : Fault → ℕ
 -- too many placements
@@ -69,3 +73,27 @@ searchingReceipt (searching.LaidOut k) = receipt 0 0 k
 searchingReceipt (searching.NoLayout k) = receipt 10 0 k
 searchingReceipt (searching.Stopped k) = receipt 11 0 k
 searchingReceipt (searching.Refused r) = refusal r
+
+-- Add: 15 group added
+abbrev pub addingReceipt : Adding → Receipt
+addingReceipt (adding.Added u) = receipt 15 0 0
+addingReceipt (adding.Refused r) = refusal r
+
+-- "the answer is the new used length, 0 on refusal"
+abbrev pub addedLength : Adding → ℕ
+addedLength (adding.Added u) = u
+addedLength (adding.Refused r) = 0
+
+-- Read: 16 strip read
+abbrev pub readingReceipt : Reading → Receipt
+readingReceipt (reading.Read n u) = receipt 16 0 0
+readingReceipt (reading.Refused r) = refusal r
+
+-- "the answer is n and the used length, both 0 on refusal"
+abbrev pub readVariables : Reading → ℕ
+readVariables (reading.Read n u) = n
+readVariables (reading.Refused r) = 0
+
+abbrev pub readLength : Reading → ℕ
+readLength (reading.Read n u) = u
+readLength (reading.Refused r) = 0

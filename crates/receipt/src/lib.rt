@@ -45,3 +45,15 @@ pub enum Searching {
     Stopped(u32),
     Refused(Refusal),
 }
+
+// Add: the new used length.
+pub enum Adding {
+    Added(usize),
+    Refused(Refusal),
+}
+
+// Read: the number of placements and the used length.
+pub enum Reading {
+    Read(usize, usize),
+    Refused(Refusal),
+}

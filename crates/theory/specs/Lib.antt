@@ -8,3 +8,5 @@ pub mod Tree
 pub mod Bound
 pub mod Search
 pub mod Filings
+pub mod Strip
+pub mod Calls

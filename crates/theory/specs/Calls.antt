@@ -1,0 +1,180 @@
+-- What the operations answer, and what they leave in the lists lent to them.
+use mathlib.Core.Bool.{Bool, true, false, _||_, cond}
+use mathlib.Core.List.{List, [], _∷_, _++_}
+use Prim.Native.Nat.{ℕ, zero, suc, _+_, _/_, _%_}
+use lib.Dec.{eqb, ltb}
+use lib.IntN.{ℤ, negsuc, natAbs, pos as posℤ}
+use lib.ListN.{length, replicate, take, drop}
+use Rattle.general.specs.Lists.{upTo}
+use Rattle.literal.specs.Literal.{Literal, pos, neg, maxClauses, maxLiterals}
+use Rattle.receipt.specs.declared.Fault.{Fault}
+use Rattle.receipt.specs.declared.Fault.the-variants.{TooManyClauses, TooManyLiterals, UnknownVariable, PlanShort, TrailShort, ReceiptShort, UsedLengthWrong, StateShort, TableShort}
+use Rattle.receipt.specs.declared.Refusal.{Refusal}
+use Rattle.receipt.specs.declared.Checked.{Checked}
+use Rattle.receipt.specs.declared.Checked.the-variants.{Passed, Refused}
+use Rattle.receipt.specs.declared.Settling.{Settling}
+use Rattle.receipt.specs.declared.Settling.the-variants as settling
+use Rattle.receipt.specs.declared.Searching.{Searching}
+use Rattle.receipt.specs.declared.Searching.the-variants as searching
+use Rattle.receipt.specs.declared.Adding.{Adding}
+use Rattle.receipt.specs.declared.Adding.the-variants as adding
+use Rattle.receipt.specs.declared.Reading.{Reading}
+use Rattle.receipt.specs.declared.Reading.the-variants as reading
+use Rattle.receipt.specs.Receipt.{Receipt, receipt, refusal, searchingReceipt}
+use Rattle.theory.specs.Formula.{Choice, clauses}
+use Rattle.theory.specs.State.{State, initial}
+use Rattle.theory.specs.Table.{zeros, nonzeros, refused, check}
+use Rattle.theory.specs.Propagation.{Settled, dead, rest, settle}
+use Rattle.theory.specs.Tree.{Outcome, laidOut, noLayout, stopped, Result}
+use Rattle.theory.specs.Search.{search, planOf, trailOf}
+use Rattle.theory.specs.Strip.{Read, goes, stops, readStrip}
+use Rattle.theory.specs.Strip as strip
+
+-- the first n elements of a list, and "Elements not named are never changed"
+abbrev pub over : {A : Type 0} → ℕ → List A → List A → List A
+over n new old = new ++ drop n old
+
+abbrev pub short : Fault → Refusal
+short why = record { fault = why; place = 0 }
+
+-- Settle ----------------------------------------------------------------------------------------------------------
+
+-- "257 taken, -257 left out, +p open, +r or -r tied to r"
+abbrev pub stateEntry : Literal → ℤ
+stateEntry (pos zero) = posℤ 257
+stateEntry (neg zero) = negsuc 256
+stateEntry (pos (suc r)) = posℤ (suc r)
+stateEntry (neg (suc r)) = negsuc r
+
+pub record SettleCall : Type 0 where
+  pub answer : Settling
+  pub list : List ℤ
+
+-- "On a dead end they become 0."
+abbrev pub settledCall : ℕ → Settled → List ℤ → SettleCall
+settledCall n dead l = record { answer = settling.NoLayout; list = over n (replicate n (posℤ 0)) l }
+settledCall n (rest s) l = record { answer = settling.Settled; list = over n (upTo (λ p. stateEntry (s p)) n) l }
+
+abbrev pub settleChecked : Checked → ℕ → List ℤ → List ℤ → SettleCall
+settleChecked (Refused r) n t l = record { answer = settling.Refused r; list = l }
+settleChecked Passed n t l =
+    cond (ltb (length l) n) (record { answer = settling.Refused (short StateShort); list = l }) (settledCall n (settle n (clauses t) initial) l)
+
+-- "Tables: 1, 2, 3, 4, 5, then .. 14 (settle)"
+unfoldable pub settleCall : ℕ → List ℤ → List ℤ → SettleCall
+settleCall n t l = settleChecked (check n t) n t l
+
+-- Search ----------------------------------------------------------------------------------------------------------
+
+pub record SearchCall : Type 0 where
+  pub answer : Searching
+  pub plan : List ℕ
+  pub trail : List ℤ
+
+abbrev pub searchAnswer : ℕ → Outcome Choice → Searching
+searchAnswer k (laidOut a) = searching.LaidOut k
+searchAnswer k noLayout = searching.NoLayout k
+searchAnswer k stopped = searching.Stopped k
+
+abbrev pub searchedCall : ℕ → Result Choice → List ℕ → List ℤ → SearchCall
+searchedCall n r plan trail =
+    record { answer = searchAnswer (r .count) (r .outcome); plan = over n (planOf n (r .outcome)) plan; trail = over n (trailOf n (r .outcome)) trail }
+
+abbrev pub searchRefused : Refusal → List ℕ → List ℤ → SearchCall
+searchRefused r plan trail = record { answer = searching.Refused r; plan = plan; trail = trail }
+
+abbrev pub searchChecked : Checked → ℕ → List ℤ → ℕ → List ℕ → List ℤ → SearchCall
+searchChecked (Refused r) n t b plan trail = searchRefused r plan trail
+searchChecked Passed n t b plan trail =
+    cond (ltb (length plan) n) (searchRefused (short PlanShort) plan trail)
+    (cond (ltb (length trail) n) (searchRefused (short TrailShort) plan trail)
+    (searchedCall n (search n t b) plan trail))
+
+-- "Tables: 1, 2, 3, 4, 5, then 6, 7 (search)"
+unfoldable pub searchCall : ℕ → List ℤ → ℕ → List ℕ → List ℤ → SearchCall
+searchCall n t b plan trail = searchChecked (check n t) n t b plan trail
+
+-- Add -------------------------------------------------------------------------------------------------------------
+
+pub record AddCall : Type 0 where
+  pub answer : Adding
+  pub buffer : List ℤ
+
+abbrev pub addRefused : Refusal → List ℤ → AddCall
+addRefused r b = record { answer = adding.Refused r; buffer = b }
+
+-- "5 on the list (place u plus its index there)": a zero there too; i is the place of the first element
+unfoldable pub unknownIn : ℕ → ℕ → List ℤ → Checked
+unknownIn i n [] = Passed
+unknownIn i n (e ∷ g) = cond (eqb (natAbs e) 0 || ltb n (natAbs e)) (refused UnknownVariable i) (unknownIn (suc i) n g)
+
+-- "The list and a closing 0 are stored at u"
+abbrev pub added : ℕ → List ℤ → List ℤ → List ℤ
+added u g b = take u b ++ (g ++ (posℤ 0 ∷ drop (u + length g + 1) b))
+
+abbrev pub addKnown : Checked → ℕ → List ℤ → List ℤ → AddCall
+addKnown (Refused r) u g b = addRefused r b
+addKnown Passed u g b =
+    cond (ltb (length b) (u + length g + 1)) (addRefused (short TableShort) b)
+    (record { answer = adding.Added (u + length g + 1); buffer = added u g b })
+
+-- "2 and 3 with the group added (each element of the list counts as an entry)"
+abbrev pub addChecked : Checked → ℕ → ℕ → List ℤ → List ℤ → AddCall
+addChecked (Refused r) u n g b = addRefused r b
+addChecked Passed u n g b =
+    cond (ltb maxClauses (zeros (take u b) + 1)) (addRefused (short TooManyClauses) b)
+    (cond (ltb maxLiterals (nonzeros (take u b) + length g)) (addRefused (short TooManyLiterals) b)
+    (addKnown (unknownIn u n g) u g b))
+
+-- "Add: 12, then 1 to 5 on the used part"
+unfoldable pub addCall : ℕ → ℕ → List ℤ → List ℤ → AddCall
+addCall u n g b = cond (ltb (length b) u) (addRefused (short UsedLengthWrong) b) (addChecked (check n (take u b)) u n g b)
+
+-- Read ------------------------------------------------------------------------------------------------------------
+
+pub record ReadCall : Type 0 where
+  pub answer : Reading
+  pub table : List ℤ
+
+-- the table is written only where the whole strip passes
+abbrev pub readAnswer : strip.Reading → List ℤ → ReadCall
+readAnswer (stops f) t = record { answer = reading.Refused f; table = t }
+readAnswer (goes r) t = record { answer = reading.Read (r .variables) (length (r .table)); table = over (length (r .table)) (r .table) t }
+
+unfoldable pub readCall : List ℕ → List ℤ → ReadCall
+readCall s t = readAnswer (readStrip s (length t)) t
+
+-- Window ----------------------------------------------------------------------------------------------------------
+
+-- "four bytes each, high byte first"
+abbrev pub bytes4 : ℕ → List ℕ
+bytes4 v = v / 16777216 ∷ v / 65536 % 256 ∷ v / 256 % 256 ∷ v % 256 ∷ []
+
+abbrev pub receiptBytes : Receipt → List ℕ
+receiptBytes r = bytes4 (r .number) ++ (bytes4 (r .place) ++ bytes4 (r .count))
+
+pub record WindowCall : Type 0 where
+  pub number : ℕ
+  pub plan : List ℕ
+  pub receipt : List ℕ
+
+abbrev pub written : Receipt → List ℕ → List ℕ → WindowCall
+written r plan old = record { number = r .number; plan = plan; receipt = over 12 (receiptBytes r) old }
+
+-- "It searches what was read, without a trail": whatever trail is lent to the search, the plan and the answer are these
+abbrev pub windowRead : strip.Reading → ℕ → List ℕ → List ℕ → WindowCall
+windowRead (stops f) b plan old = written (refusal f) plan old
+windowRead (goes r) b plan old =
+    cond (ltb (length plan) (r .variables)) (written (refusal (short PlanShort)) plan old)
+    (let found = search (r .variables) (r .table) b in
+    written (searchingReceipt (searchAnswer (found .count) (found .outcome))) (over (r .variables) (planOf (r .variables) (found .outcome)) plan) old)
+
+-- the window's own table has room for every strip within the limits
+abbrev pub windowRoom : ℕ
+windowRoom = 2560
+
+-- "Window: 9, strip refusals except 23, then 6"
+unfoldable pub windowCall : List ℕ → ℕ → List ℕ → List ℕ → WindowCall
+windowCall s b plan old =
+    cond (ltb (length old) 12) (record { number = 9; plan = plan; receipt = old })
+    (windowRead (readStrip s windowRoom) b plan old)
