@@ -2,3 +2,4 @@ pub mod Booleans
 pub mod Lists
 pub mod Search
 pub mod Options
+pub mod Counting

@@ -1,8 +1,7 @@
--- Signed numbers as the machine keeps them: what it reads back, the sign by the test of order with 0, and equality by the bits.
-use mathlib.Core.Path.{_≡_, refl, sym, ap, _∙_}
+-- Signed numbers as the machine keeps them: what it reads back, and the sign by the test of order with 0.
+use mathlib.Core.Path.{_≡_, refl, _∙_}
 use mathlib.Core.Bool.{true, false}
 use Prim.Native.Nat.{ℕ, zero, suc, _<_, _≤_, _^_, zero-le}
-use native.Mathlib.Decide.{decLt}
 use native.Mathlib.Nat.{le-refl, le-suc, lt-of-le-of-lt, not-suc-le-zero}
 use native.Mathlib.Omega.{arith}
 use borrow.Author.Tests.{ltb-true}
@@ -52,16 +51,3 @@ neg-of-lt (negsuc n) h = tt
 pub nonneg-of-le : (z : ℤ) → ltZ z (pos 0) ≡ false → T (nonNeg z)
 nonneg-of-le (pos n) h = tt
 nonneg-of-le (negsuc n) h = let z : _≡_ {A = ℕ} 0 1 = cc in absurd (omega arith)
-
--- `==` compares the bits, and numbers with the same bits are the same
-pub same-bits : {w : Width} (y z : ℤ) → SFits w y → SFits w z → ofZ w y ≡ ofZ w z → y ≡ z
-same-bits {w} y z f g e = sym (toZ-ofZ w y f) ∙ ap (toZ w) e ∙ toZ-ofZ w z g
-
--- of the 16-bit numbers -32768 alone, which has the bits 32768, is larger in size than 32767
-pub abs-outside : (z : ℤ) → SFits w16 z → ofZ w16 z ≡ 32768 → 32767 < natAbs z
-abs-outside (pos n) h e = omega arith
-abs-outside (negsuc n) h e = omega arith
-
-pub abs-inside : (z : ℤ) → SFits w16 z → (ofZ w16 z ≡ 32768 → ⊥) → natAbs z ≤ 32767
-abs-inside (pos n) h f = omega arith
-abs-inside (negsuc n) h f = elim (decLt n 32767) [ yes p ↦ omega arith | no p ↦ absurd (f (omega arith)) ]

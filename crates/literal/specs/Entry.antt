@@ -1,30 +1,22 @@
--- An entry as the signed 16-bit number of a table: how it is made, its opposite, and the tests that code makes of it.
-use Prim.Native.Nat.{ℕ, zero, suc}
-use mathlib.Core.Bool.{Bool, true, false, cond}
-use lib.Dec.{eqb, leb}
-use lib.IntN.{ℤ, pos, negsuc, negℤ, natAbs}
+-- How a literal is made of a placement number and a sign, and read from an element of a table, in 16 bits.
+use Prim.Native.Nat.{ℕ, min}
+use mathlib.Core.Bool.{Bool, true, false}
+use lib.IntN.{ℤ, natAbs}
+use lib.Signed.{nonNeg}
+use Rattle.literal.specs.Literal.{Literal, pos, neg}
 
--- "-32768 is outside every filing"
-abbrev pub outside : ℤ
-outside = negsuc 32767
+-- "+p says placement p is taken, -p that it is left out". 16 bits have no code for a number above 32767: it counts as 32767,
+-- which is outside every filing too
+abbrev pub made : ℕ → Bool → Literal
+made p true = pos (min p 32767)
+made p false = neg (min p 32767)
 
--- "+p says placement p is taken, -p that it is left out"; a number above 32767 has no entry
-unfoldable pub made : ℕ → Bool → ℤ
-made p b = cond (leb p 32767) (cond b (pos p) (negℤ (pos p))) outside
+-- "-32768 is outside every filing": it reads as neg 32767, whose opposite is pos 32767, and both are outside too.
+-- Every other element reads as it is written
+abbrev pub read : ℤ → Literal
+read e = made (natAbs e) (nonNeg e)
 
--- "The opposite of an entry": the negation, except that -32768, whose negation 16 bits do not hold, stays as it is
-unfoldable pub opposed : ℤ → ℤ
-opposed e = cond (leb (natAbs e) 32767) (negℤ e) e
-
--- whether an entry says that its placement is taken; 0 does not
-abbrev pub isTaken : ℤ → Bool
-isTaken (pos zero) = false
-isTaken (pos (suc n)) = true
-isTaken (negsuc n) = false
-
--- the test of equality
-abbrev pub sameEntry : ℤ → ℤ → Bool
-sameEntry (pos m) (pos n) = eqb m n
-sameEntry (pos m) (negsuc n) = false
-sameEntry (negsuc m) (pos n) = false
-sameEntry (negsuc m) (negsuc n) = eqb m n
+-- whether a literal says that its placement is taken
+abbrev pub positive : Literal → Bool
+positive (pos p) = true
+positive (neg p) = false

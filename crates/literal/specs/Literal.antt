@@ -1,7 +1,7 @@
 -- Literals (document 01's entries): pos p says that variable p (its placement) is taken, neg p that it is left out.
 -- Variables of a formula are counted from 1. Variable 0 is the constant: pos 0 is always true and neg 0 always false.
-use Prim.Native.Nat.{ℕ, zero, suc}
-use mathlib.Core.Bool.{Bool, true, false}
+use Prim.Native.Nat.{ℕ, zero, suc, _+_, _*_, _/_, _%_}
+use mathlib.Core.Bool.{Bool, true, false, cond}
 use lib.Dec.{eqb}
 use lib.IntN.{ℤ, negsuc, pos as posℤ}
 
@@ -28,6 +28,15 @@ same (pos p) (pos q) = eqb p q
 same (pos p) (neg q) = false
 same (neg p) (pos q) = false
 same (neg p) (neg q) = eqb p q
+
+-- a literal as one number, as code keeps it
+abbrev pub codeOf : Literal → ℕ
+codeOf (pos p) = 2 * p
+codeOf (neg p) = 2 * p + 1
+
+-- and back
+unfoldable pub literalAt : ℕ → Literal
+literalAt c = cond (eqb (c % 2) 0) (pos (c / 2)) (neg (c / 2))
 
 -- an element of a table as a literal: +p, -p
 abbrev pub literalOf : ℤ → Literal

@@ -1,4 +1,6 @@
 // What an operation answers, by cases. specs/Receipt.antt gives document 01's number, place and values of each case.
+ghost use mathlib.Core.Path.{_≡_};
+ghost use Rattle.receipt.specs.Receipt.{numberOf};
 
 // Why a call is refused: the rows of document 01's table of numbers that refuse, in its order.
 pub enum Fault {
@@ -18,6 +20,33 @@ pub enum Fault {
     OutOfTurn,
     TableShort,
     StripTooLong,
+}
+
+impl Fault {
+    // The number on the receipt.
+    pub fn number(self) -> u32
+        ensures { λ r. ⌜ r ≡ numberOf self ⌝ }
+    {
+        let why = self;
+        match why {
+            Fault::TooManyVariables => 1,
+            Fault::TooManyClauses => 2,
+            Fault::TooManyLiterals => 3,
+            Fault::OpenClause => 4,
+            Fault::UnknownVariable => 5,
+            Fault::PlanShort => 6,
+            Fault::TrailShort => 7,
+            Fault::HeadsShort => 8,
+            Fault::ReceiptShort => 9,
+            Fault::UsedLengthWrong => 12,
+            Fault::StateShort => 14,
+            Fault::UnknownMark => 20,
+            Fault::CutStrip => 21,
+            Fault::OutOfTurn => 22,
+            Fault::TableShort => 23,
+            Fault::StripTooLong => 24,
+        }
+    }
 }
 
 pub struct Refusal {

@@ -2,14 +2,14 @@
 use mathlib.Core.Bool.{false, not, cond}
 use mathlib.Core.List.{List, [], _∷_}
 use Prim.Native.Nat.{ℕ, _+_}
-use lib.Dec.{ltb}
+use lib.Dec.{ltb, eqb}
 use lib.IntN.{ℤ, natAbs}
 use Rattle.general.specs.Booleans.{bit}
 use Rattle.literal.specs.Literal.{maxVariables, maxClauses, maxLiterals}
 use Rattle.receipt.specs.declared.Fault.the-variants.{TooManyVariables, TooManyClauses, TooManyLiterals, OpenClause, UnknownVariable}
 use Rattle.receipt.specs.declared.Checked.{Checked}
 use Rattle.receipt.specs.declared.Checked.the-variants.{Passed}
-use Rattle.theory.specs.Table.{closes, refused}
+use Rattle.theory.specs.Table.{refused}
 use Rattle.table.specs.declared.Unknown.{Unknown}
 use Rattle.table.specs.declared.Unknown.the-variants.{Nowhere, At}
 use Rattle.table.specs.declared.Tally.{Tally}
@@ -26,22 +26,23 @@ abbrev pub earlier : Unknown → Unknown → Unknown
 earlier Nowhere u = u
 earlier (At i) u = At i
 
-abbrev pub unknownAt : ℕ → ℕ → ℤ → Unknown
-unknownAt i n e = cond (ltb n (natAbs e)) (At i) Nowhere
+-- k is the size of the element at index i
+abbrev pub unknownAt : ℕ → ℕ → ℕ → Unknown
+unknownAt i n k = cond (ltb n k) (At i) Nowhere
 
--- one element more
-unfoldable pub counted : ℕ → Tally → ℤ → Tally
-counted n s e =
+-- one element more, of size k; one of size 0 closes a group
+unfoldable pub counted : ℕ → Tally → ℕ → Tally
+counted n s k =
     record {
-      clauses = s .clauses + bit (closes e);
-      literals = s .literals + bit (not (closes e));
-      unclosed = not (closes e);
-      unknown = earlier (s .unknown) (unknownAt (passed s) n e);
+      clauses = s .clauses + bit (eqb k 0);
+      literals = s .literals + bit (not (eqb k 0));
+      unclosed = not (eqb k 0);
+      unknown = earlier (s .unknown) (unknownAt (passed s) n k);
     }
 
 unfoldable pub tallyFrom : ℕ → Tally → List ℤ → Tally
 tallyFrom n s [] = s
-tallyFrom n s (e ∷ t) = tallyFrom n (counted n s e) t
+tallyFrom n s (e ∷ t) = tallyFrom n (counted n s (natAbs e)) t
 
 abbrev pub tallyOf : ℕ → List ℤ → Tally
 tallyOf n t = tallyFrom n empty t

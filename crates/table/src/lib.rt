@@ -22,11 +22,11 @@ pub struct Tally {
     pub unknown: Unknown,
 }
 
-// Whether the entry at index i is of an unknown variable. The size of -32768 is 32768, so it is above every n that is allowed.
-fn unknown_at(i: usize, n: usize, entry: Literal) -> Unknown
-    ensures { λ r. ⌜ r ≡ unknownAt i n (entry .0) ⌝ }
+// Whether the element at index i, of this size, is of an unknown variable. The size of -32768 is 32768, so it is above every n that is allowed.
+fn unknown_at(i: usize, n: usize, size: u16) -> Unknown
+    ensures { λ r. ⌜ r ≡ unknownAt i n size ⌝ }
 {
-    if n < entry.size() as usize {
+    if n < size as usize {
         Unknown::At(i)
     } else {
         Unknown::Nowhere
@@ -43,16 +43,16 @@ fn earlier(first: Unknown, second: Unknown) -> Unknown
     }
 }
 
-// One element more. The counts add up to the number of elements passed, which is the index of this one.
-fn counted(n: usize, tally: Tally, entry: Literal) -> Tally
+// One element more, by its size. The counts add up to the number of elements passed, which is the index of this one.
+fn counted(n: usize, tally: Tally, size: u16) -> Tally
     requires { ⌜ passed tally + 1 < 2 ^ 64 ⌝ }
-    ensures { λ r. ⌜ r ≡ counted n tally (entry .0) ⌝ }
+    ensures { λ r. ⌜ r ≡ counted n tally size ⌝ }
 {
     let clauses = tally.clauses;
     let literals = tally.literals;
     let found = tally.unknown;
-    let unknown = earlier(found, unknown_at(clauses + literals, n, entry));
-    if entry.is_zero() {
+    let unknown = earlier(found, unknown_at(clauses + literals, n, size));
+    if size == 0 {
         Tally {
             clauses: clauses + 1,
             literals,
@@ -80,12 +80,12 @@ pub fn tally_of(n: usize, table: &[i16]) -> Tally
         unknown: Unknown::Nowhere,
     };
     for i in 0..table.len() {
-        tally = counted(n, tally, literal::entry_at(table, i));
+        tally = counted(n, tally, literal::size_at(table, i));
     }
     tally
 }
 
-fn refused(fault: Fault, place: usize) -> Checked
+pub fn refused(fault: Fault, place: usize) -> Checked
     ensures { λ r. ⌜ r ≡ refused fault place ⌝ }
 {
     Checked::Refused(Refusal { fault, place })

@@ -28,7 +28,7 @@ use Rattle.theory.proofs.Asks.{standing-fixed, standing-inside}
 -- of the clauses that no rule fits, only the third form is live ----------------------------------------------------
 
 -- a literal and its opposite are at rest
-resting-live : (x : Literal) → live (x ∷ opposite x ∷ []) ≡ false
+pub resting-live : (x : Literal) → live (x ∷ opposite x ∷ []) ≡ false
 resting-live x = rw (rests (complementary c) (find-finds (λ y. stands (opposite y) c) c)) (silent (noneTrue c))
   where
     c : Clause
@@ -49,7 +49,7 @@ resting-live x = rw (rests (complementary c) (find-finds (λ y. stands (opposite
     rests none h = absurd (true-not-false (mem-stands c (opposite x) (List·Memᴰ·tail (List·Memᴰ·head refl))) (h x (List·Memᴰ·head refl)))
     rests (some y) h = alone y (h .0) (other c y) (find-finds (λ z. differ y z) c)
 
-live-alive : {c : Clause} → Closed c → live c ≡ true → Alive c
+pub live-alive : {c : Clause} → Closed c → live c ≡ true → Alive c
 unfolding occurs
 live-alive met e = absurd (true-not-false e refl)
 live-alive (resting x h) e = absurd (true-not-false e (resting-live x))

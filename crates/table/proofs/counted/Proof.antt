@@ -1,13 +1,14 @@
 -- `counted` meets its contract: an element closes a clause or is a literal, and an index found before stays.
-use mathlib.Core.Path.{_≡_, sym, ap, _∙_}
+use mathlib.Core.Path.{_≡_, ap, _∙_}
 use borrow.Author.Needs.{needs}
+use borrow.Author.Tests.{eq-eqb, ne-eqb}
 use Rattle.table.specs.Tally.{passed, earlier, unknownAt}
 use Rattle.table.proofs.Tallies.{counted-zero, counted-literal}
 use Rattle.table.proofs.counted.Statement.{statement}
 use Rattle.table.proofs.counted.Tie as tie
 
 found : (c : tie.After-earlier) →
-    let a = c .before .before .args in c .earlier .result ≡ earlier (a .tally .unknown) (unknownAt (passed (a .tally)) (a .n) (a .entry .0))
+    let a = c .before .before .args in c .earlier .result ≡ earlier (a .tally .unknown) (unknownAt (passed (a .tally)) (a .n) (a .size))
 found c = c .earlier .ensures ∙ ap (earlier (c .before .before .args .tally .unknown)) (c .before .unknown-at .ensures)
 
 pub counted-spec : {M : Type 1} → statement M
@@ -17,12 +18,11 @@ counted-spec =
     (λ c. search needs)
     (λ c κs. search needs)
     (λ c κs. search needs)
-    (λ c κs. search needs)
     (λ c. search needs)
     (λ c. search needs)
     (λ c.
-    let a = c .before .before .before .before .args in
-    counted-zero (a .n) (a .tally) (a .entry .0) _ (found (c .before .before)) (sym (c .before .is-zero .ensures) ∙ c .if1 .taken))
+    let a = c .before .before .before .args in
+    counted-zero (a .n) (a .tally) (a .size) _ (found (c .before)) (eq-eqb _ _ (c .if1 .taken)))
     (λ c.
-    let a = c .before .before .before .before .args in
-    counted-literal (a .n) (a .tally) (a .entry .0) _ (found (c .before .before)) (sym (c .before .is-zero .ensures) ∙ c .if1 .left)))
+    let a = c .before .before .before .args in
+    counted-literal (a .n) (a .tally) (a .size) _ (found (c .before)) (ne-eqb _ _ (c .if1 .left))))

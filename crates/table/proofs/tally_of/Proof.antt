@@ -3,7 +3,7 @@ use Prim.Native.Nat.{_≤_, _-_}
 use mathlib.Core.Path.{_≡_, refl, sym, ap, _∙_}
 use borrow.Author.Needs.{needs}
 use native.Mathlib.Omega.{arith}
-use lib.IntN.{pos}
+use lib.IntN.{pos, natAbs}
 use lib.ListN.{length, getD, drop}
 use Rattle.table.specs.Tally.{passed, counted, tallyFrom, tallyOf}
 use Rattle.table.proofs.Tallies.{tally-next, tally-end, passed-next}
@@ -24,8 +24,8 @@ loop-again : tie.Need-loop-again Inv-loop μ-loop
 loop-again c =
     let h = c .before .before .before in
     let a = h .before .args in
-    let e : c .counted .result ≡ counted (a .n) (h .loop .tally) (getD (a .table .now) (h .loop .i) (pos 0)) =
-    c .counted .ensures ∙ ap (counted (a .n) (h .loop .tally)) (c .before .entry-at .ensures) in (
+    let e : c .counted .result ≡ counted (a .n) (h .loop .tally) (natAbs (getD (a .table .now) (h .loop .i) (pos 0))) =
+    c .counted .ensures ∙ ap (counted (a .n) (h .loop .tally)) (c .before .size-at .ensures) in (
       refl,
       search needs,
       rw e (passed-next (a .n) (h .loop .tally) _ ∙ omega arith),

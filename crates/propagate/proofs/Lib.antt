@@ -1,0 +1,5 @@
+pub mod Ranked
+pub mod Scanning
+pub mod Pairs
+pub mod Answers
+pub mod Settling

@@ -1,0 +1,7 @@
+pub mod Walk
+pub mod Reading
+pub mod Seeing
+pub mod Looks
+pub mod Pairings
+pub mod Deciding
+pub mod Meetings

@@ -1,0 +1,4 @@
+pub mod Look
+pub mod Pairs
+pub mod Pass
+pub mod Code
