@@ -5,3 +5,4 @@ pub mod Looks
 pub mod Pairings
 pub mod Deciding
 pub mod Meetings
+pub mod Accepted
