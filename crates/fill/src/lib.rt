@@ -9,8 +9,10 @@ pub fn clear_bytes(list: &mut [u8], n: usize)
     requires { ⌜ n ≤ length (now list) ⌝ }
     ensures { λ _. ⌜ now (list .exit) ≡ over n (replicate n 0) (now (list .entry)) ⌝ }
 {
-    for i in 0..n {
-        list[i] = 0;
+    let mut i = 0;
+    while i < n {
+        list[i] = 0u8;
+        i += 1;
     }
 }
 

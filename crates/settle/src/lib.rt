@@ -34,8 +34,10 @@ fn write_state(list: &mut [i16], n: usize, state: State)
     requires { ⌜ InRange (state .values) ⌝ }
     ensures { λ _. ⌜ now (list .exit) ≡ over n (upTo (λ p. stateEntry (stateOf (state .values) p)) n) (now (list .entry)) ⌝ }
 {
-    for i in 0..n {
+    let mut i = 0;
+    while i < n {
         list[i] = state_entry(Literal(state.values[i + 1]));
+        i += 1;
     }
 }
 

@@ -1,7 +1,5 @@
 // Settles document 01's filings, ties and chains of ties among them, and refused calls. Each line is the answer's number, its place, and the first seven
 // elements of the list, all 99 before the call.
-use receipt::Fault;
-use receipt::Refusal;
 use receipt::Settling;
 
 fn text(bytes: &[u8]) {
@@ -16,25 +14,13 @@ fn number(e: i16) {
     io::print_decimal(1, literal::size(e) as u64);
 }
 
-fn fault(why: Fault) {
-    match why {
-        Fault::TooManyVariables => text(b"1"),
-        Fault::TooManyClauses => text(b"2"),
-        Fault::TooManyLiterals => text(b"3"),
-        Fault::OpenClause => text(b"4"),
-        Fault::UnknownVariable => text(b"5"),
-        Fault::StateShort => text(b"14"),
-        _ => text(b"?"),
-    }
-}
-
 fn answer(settling: Settling) {
     match settling {
         Settling::Settled => text(b"13 0"),
         Settling::NoLayout => text(b"10 0"),
         Settling::Refused(refusal) => {
             let why = refusal.fault;
-            fault(why);
+            io::print_decimal(1, why.number() as u64);
             text(b" ");
             io::print_decimal(1, refusal.place as u64);
         }
