@@ -1,0 +1,15 @@
+/* The drawing window's call: a search of a strip, for C.
+ *
+ * Lends a strip, an allowance of splits, a plan and a receipt. Where the receipt has at least 12 bytes, its first 12 become number, place and
+ * count, four bytes each, high byte first. The answer is the number: 0 laid out (the first n bytes of the plan are the choice), 10 no layout, 11
+ * stopped (the first n bytes of the plan are 0), or a refusal, after which the plan is as it was. 9 means that the receipt is short: nothing is
+ * written. No two of the lent buffers may overlap. */
+#ifndef WINDOW_H
+#define WINDOW_H
+
+#include <stddef.h>
+#include <stdint.h>
+
+uint32_t window(const uint8_t *strip, size_t strip_len, uint32_t allowance, uint8_t *plan, size_t plan_len, uint8_t *receipt, size_t receipt_len);
+
+#endif
