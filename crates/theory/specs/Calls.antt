@@ -153,21 +153,30 @@ bytes4 v = v / 16777216 ∷ v / 65536 % 256 ∷ v / 256 % 256 ∷ v % 256 ∷ []
 abbrev pub receiptBytes : Receipt → List ℕ
 receiptBytes r = bytes4 (r .number) ++ (bytes4 (r .place) ++ bytes4 (r .count))
 
+-- what goes on the receipt, and the plan
+pub record Run : Type 0 where
+  pub receipt : Receipt
+  pub plan : List ℕ
+
+abbrev pub ran : Receipt → List ℕ → Run
+ran r plan = record { receipt = r; plan = plan }
+
+abbrev pub searchedRun : ℕ → Result Choice → List ℕ → Run
+searchedRun n r plan = ran (searchingReceipt (searchAnswer (r .count) (r .outcome))) (over n (planOf n (r .outcome)) plan)
+
+-- "strip refusals except 23, then 6"; "It searches what was read, without a trail"
+abbrev pub runOf : strip.Reading → ℕ → List ℕ → Run
+runOf (stops f) b plan = ran (refusal f) plan
+runOf (goes r) b plan =
+    cond (ltb (length plan) (r .variables)) (ran (refusal (short PlanShort)) plan) (searchedRun (r .variables) (search (r .variables) (r .table) b) plan)
+
 pub record WindowCall : Type 0 where
   pub number : ℕ
   pub plan : List ℕ
   pub receipt : List ℕ
 
-abbrev pub written : Receipt → List ℕ → List ℕ → WindowCall
-written r plan old = record { number = r .number; plan = plan; receipt = over 12 (receiptBytes r) old }
-
--- "It searches what was read, without a trail": whatever trail is lent to the search, the plan and the answer are these
-abbrev pub windowRead : strip.Reading → ℕ → List ℕ → List ℕ → WindowCall
-windowRead (stops f) b plan old = written (refusal f) plan old
-windowRead (goes r) b plan old =
-    cond (ltb (length plan) (r .variables)) (written (refusal (short PlanShort)) plan old)
-    (let found = search (r .variables) (r .table) b in
-    written (searchingReceipt (searchAnswer (found .count) (found .outcome))) (over (r .variables) (planOf (r .variables) (found .outcome)) plan) old)
+abbrev pub written : Run → List ℕ → WindowCall
+written r old = record { number = r .receipt .number; plan = r .plan; receipt = over 12 (receiptBytes (r .receipt)) old }
 
 -- the window's own table has room for every strip within the limits
 abbrev pub windowRoom : ℕ
@@ -176,5 +185,4 @@ windowRoom = 2560
 -- "Window: 9, strip refusals except 23, then 6"
 unfoldable pub windowCall : List ℕ → ℕ → List ℕ → List ℕ → WindowCall
 windowCall s b plan old =
-    cond (ltb (length old) 12) (record { number = 9; plan = plan; receipt = old })
-    (windowRead (readStrip s windowRoom) b plan old)
+    cond (ltb (length old) 12) (record { number = 9; plan = plan; receipt = old }) (written (runOf (readStrip s windowRoom) b plan) old)
