@@ -31,7 +31,7 @@ extends-sol : (n : ℕ) (f : Formula) (s : State) (c : Choice) → Extends n f s
 extends-sol n f s c h = record { constant = refl; satisfies = h .solves .satisfies; agrees = h .agrees }
 
 module _ {n : ℕ} {f : Formula} (within : Within n f) where
-  decide-means : (s : State) → WellFormed n s → Means (WellFormed n) (λ u. opens u n) (Extends n f) _≼_ s (decide n f s)
+  pub decide-means : (s : State) → WellFormed n s → Means (WellFormed n) (λ u. opens u n) (Extends n f) _≼_ s (decide n f s)
   unfolding decide
   decide-means s w = go (settle n f s) (settle-ends within s w) (settling-keeps-solutions within (suc n) s w (omega (arith, opens-bound s n)))
     where

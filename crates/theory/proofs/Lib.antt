@@ -17,4 +17,5 @@ pub mod Branching
 pub mod Splits
 pub mod Tables
 pub mod Demands
+pub mod Paths
 pub mod Filings

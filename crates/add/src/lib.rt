@@ -1,0 +1,105 @@
+// Add: one group more at the end of the used part of a buffer.
+ghost use mathlib.Core.Path.{_≡_};
+ghost use Prim.Native.Nat.{_+_, _^_, _<_};
+ghost use lib.ListN.{length};
+ghost use Rattle.theory.specs.Calls.{unknownIn, added, addCall};
+ghost use Rattle.add.specs.Add.{known, firstRefusal, atMost, checkAdded, called};
+use literal::Literal;
+use receipt::Adding;
+use receipt::Checked;
+use receipt::Fault;
+
+// Whether an element of the list, by its size, is an entry of a placement from 1 to n. A zero isn't.
+fn known(n: usize, size: u16) -> bool
+    ensures { λ r. ⌜ r ≡ known n size ⌝ }
+{
+    0 < size && size as usize <= n
+}
+
+// The first element of the list that isn't known; the list's own first element is at place `at`.
+fn unknown_in(at: usize, n: usize, group: &[i16]) -> Checked
+    requires { ⌜ at + length (now group) < 2 ^ 64 ⌝ }
+    ensures { λ r. ⌜ r ≡ unknownIn at n (now (group .entry)) ⌝ }
+{
+    for i in 0..group.len() {
+        if !known(n, literal::size_at(group, i)) {
+            return table::refused(Fault::UnknownVariable, at + i);
+        }
+    }
+    Checked::Passed
+}
+
+// A count above its limit is refused, at place 0.
+fn at_most(count: usize, limit: usize, fault: Fault) -> Checked
+    ensures { λ r. ⌜ r ≡ atMost count limit fault ⌝ }
+{
+    if limit < count {
+        table::refused(fault, 0)
+    } else {
+        Checked::Passed
+    }
+}
+
+// Checks run in document 01's order, and the first refusal stays.
+fn first_refusal(first: Checked, second: Checked) -> Checked
+    ensures { λ r. ⌜ r ≡ firstRefusal first second ⌝ }
+{
+    match first {
+        Checked::Passed => second,
+        Checked::Refused(_) => first,
+    }
+}
+
+// "Add: 12, then 1 to 5 on the used part, 2 and 3 with the group added, 5 on the list, 23".
+fn check_added(buffer: &[i16], used: usize, n: usize, group: &[i16]) -> Checked
+    ensures { λ r. ⌜ r ≡ checkAdded used n (now (group .entry)) (now (buffer .entry)) ⌝ }
+{
+    if buffer.len() < used {
+        return table::refused(Fault::UsedLengthWrong, 0);
+    }
+    // No sum below wraps: a slice of 16-bit numbers has fewer than 2^62 elements.
+    let count = group.len();
+    let tally = table::tally_of(n, &buffer[..used]);
+    let used_part = table::verdict(n, tally);
+    let clauses = at_most(
+        tally.clauses + 1,
+        Literal::MAX_CLAUSES,
+        Fault::TooManyClauses,
+    );
+    let literals = at_most(
+        tally.literals + count,
+        Literal::MAX_LITERALS,
+        Fault::TooManyLiterals,
+    );
+    let unknown = unknown_in(used, n, group);
+    let room = at_most(used + count + 1, buffer.len(), Fault::TableShort);
+    let limits = first_refusal(clauses, literals);
+    let list = first_refusal(unknown, room);
+    first_refusal(used_part, first_refusal(limits, list))
+}
+
+// "The list and a closing 0 are stored at u".
+fn store(buffer: &mut [i16], used: usize, group: &[i16])
+    requires { ⌜ used + length (now group) < length (now buffer) ⌝ }
+    ensures { λ _. ⌜ now (buffer .exit) ≡ added used (now (group .entry)) (now (buffer .entry)) ⌝ }
+{
+    let count = group.len();
+    for i in 0..count {
+        buffer[used + i] = group[i];
+    }
+    buffer[used + count] = 0;
+}
+
+// Every refusal is known before the first store, so a refused call changes nothing.
+pub fn add(buffer: &mut [i16], used: usize, n: usize, group: &[i16]) -> Adding
+    ensures { λ r. ⌜ called r (now (buffer .exit)) ≡ addCall used n (now (group .entry)) (now (buffer .entry)) ⌝ }
+{
+    let checked = check_added(buffer, used, n, group);
+    match checked {
+        Checked::Refused(refusal) => Adding::Refused(refusal),
+        Checked::Passed => {
+            store(buffer, used, group);
+            Adding::Added(used + group.len() + 1)
+        }
+    }
+}

@@ -1,0 +1,7 @@
+pub mod Lowest
+pub mod Leaf
+pub mod Sides
+pub mod Walking
+pub mod Outcomes
+pub mod Calling
+pub mod Promises

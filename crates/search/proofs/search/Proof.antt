@@ -1,0 +1,84 @@
+-- `search` meets its contract: the check, the room, and the walk from the initial state over cleared lists.
+use mathlib.Core.Path.{_≡_, refl, ap, sym, _∙_}
+use Prim.Native.Nat.{ℕ, _≤_}
+use borrow.Author.Needs.{needs}
+use native.Mathlib.Omega.{arith}
+use denote.Ref.{now}
+use lib.ListN.{length}
+use Rattle.receipt.specs.declared.Searching.{Searching}
+use Rattle.theory.specs.Table.{Accepted}
+use Rattle.theory.specs.Calls.{SearchCall}
+use Rattle.search.specs.Walk.{called}
+use Rattle.search.proofs.Calling.{call-refused, call-plan-short, call-trail-short, call-walked, start-walkable}
+use Rattle.search.proofs.search.Statement.{statement}
+use Rattle.search.proofs.search.Tie as tie
+use Rattle.search.proofs.search.Reads as reads
+use Rattle.search.proofs.search.Lts as lts
+use Rattle.fill.proofs.clear_bytes.Reads as clear-bytes-reads
+use Rattle.fill.proofs.clear_numbers.Reads as clear-numbers-reads
+use Rattle.search.proofs.answered.Reads as answered-reads
+use Rattle.search.proofs.refused.Reads as refused-reads
+use Rattle.search.proofs.settle_and_decide.Reads as settle-and-decide-reads
+use Rattle.state.proofs.initial.Reads as initial-reads
+use Rattle.table.proofs.check_table.Reads as check-table-reads
+
+returns : tie.Need-returns
+returns c =
+    let k = c .before .before .before in
+    call-refused _ _ _ _ _ _ (sym (k .check-table .ensures) ∙ c .before .checked .given .1)
+
+accepted : (c : tie.After-enum-told) → let a = c .before .before .before .before .args in Accepted (a .n) (now (a .table))
+accepted c = sym (c .before .before .check-table .ensures) ∙ c .enum-told .given .1
+
+returns-2 : tie.Need-returns-2
+returns-2 c = rw (c .refused .ensures) (call-plan-short _ _ _ _ _ (accepted (c .before .before)) (c .before .if1 .taken))
+
+returns-3 : tie.Need-returns-3
+returns-3 c =
+    let e = c .before .before in
+    rw (c .refused2 .ensures) (call-trail-short _ _ _ _ _ (accepted (e .before)) (e .if1 .left) (c .before .if2 .taken))
+
+settle-and-decide-requires : tie.Need-settle-and-decide-requires
+settle-and-decide-requires c κs =
+    let i = c .before .before in
+    let n = i .before .before in
+    let b = n .before .before .before .before in
+    let e = b .before .before in
+    let a = e .before .before .before .before .before .before .args in
+    let lp : length (b .clear-bytes .last .0) ≡ length (now (a .plan)) = b .clear-bytes .kept .0 in
+    let lt : length (n .clear-numbers .last .0) ≡ length (now (a .trail)) = n .clear-numbers .kept .0 in
+    start-walkable (a .n) (now (a .table)) (accepted (e .before .before)) _ (i .initial .ensures .0) (i .initial .ensures .1) _ _
+    (omega (arith, lp, e .before .if1 .left)) (omega (arith, lt, e .if2 .left))
+
+returns-4 : tie.Need-returns-4
+returns-4 c =
+    let w = c .before .before .before .before in
+    let i = w .before .before .before in
+    let n = i .before .before in
+    let b = n .before .before .before .before in
+    let e = b .before .before in
+    let a = e .before .before .before .before .before .before .args in
+    rw (c .answered .ensures)
+    (call-walked (a .n) (now (a .table)) (a .allowance) (now (a .plan)) (now (a .trail)) (accepted (e .before .before)) (e .before .if1 .left) (e .if2 .left)
+    _ (i .initial .ensures .0) _ (b .clear-bytes .ensures) _ (n .clear-numbers .ensures) (w .settle-and-decide .result) _ _ (w .settle-and-decide .ensures))
+
+pub search-spec : {M : Type 1} → statement M
+search-spec =
+    tie.close
+    (tie.spec
+    (λ c κs. search needs)
+    (λ c. search needs)
+    returns
+    (λ c. search needs)
+    (λ c κs. search needs)
+    returns-2
+    (λ c κs. search needs)
+    returns-3
+    (λ c κs. search needs)
+    (λ c κs. search needs)
+    (λ c κs. search needs)
+    settle-and-decide-requires
+    (λ c κs. search needs)
+    (λ c. search needs)
+    (λ c. search needs)
+    returns-4)

@@ -1,0 +1,9 @@
+pub mod Marks
+pub mod Commands
+pub mod Tables
+pub mod Sound
+pub mod Accepted
+pub mod Stores
+pub mod Reached
+pub mod Prefix
+pub mod Decodings

@@ -1,0 +1,3 @@
+pub mod Commands
+pub mod Progress
+pub mod Decoding
