@@ -103,14 +103,15 @@ pub fn command_at(strip: &[u8], at: usize, turn: u8) -> Step
 {
     let mark = strip[at];
     let allowed = turn_of(mark);
+    let size = operand_length(mark);
+    let cut = strip.len() - at <= size;
     if allowed == NEVER {
         return Step::Refused(refusal(Fault::UnknownMark, at));
     }
     if turn != allowed {
         return Step::Refused(refusal(Fault::OutOfTurn, at));
     }
-    let size = operand_length(mark);
-    if strip.len() - at <= size {
+    if cut {
         return Step::Refused(refusal(Fault::CutStrip, at));
     }
     Step::Command {
