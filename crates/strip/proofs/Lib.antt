@@ -7,3 +7,4 @@ pub mod Stores
 pub mod Reached
 pub mod Prefix
 pub mod Decodings
+pub mod Places
