@@ -11,6 +11,11 @@ fn count(k: u32) {
     io::print_decimal(1, k as u64);
 }
 
+fn choice(b: u8) {
+    text(b" ");
+    io::print_decimal(1, b as u64);
+}
+
 fn number(e: i16) {
     text(b" ");
     if e < 0 {
@@ -45,13 +50,13 @@ fn answer(searching: Searching) {
 
 fn show_plan(plan: &[u8; 7]) {
     text(b" |");
-    count(plan[0] as u32);
-    count(plan[1] as u32);
-    count(plan[2] as u32);
-    count(plan[3] as u32);
-    count(plan[4] as u32);
-    count(plan[5] as u32);
-    count(plan[6] as u32);
+    choice(plan[0]);
+    choice(plan[1]);
+    choice(plan[2]);
+    choice(plan[3]);
+    choice(plan[4]);
+    choice(plan[5]);
+    choice(plan[6]);
 }
 
 fn show_trail(trail: &[i16; 7]) {
