@@ -210,7 +210,7 @@ static void reference_search(const struct filing *f, uint32_t allowance, struct 
 }
 
 /* Tries all choices in order: 1 and the first layout in plan, or 0. */
-static int try_all_choices(const struct filing *f, uint8_t *plan) {
+static inline int try_all_choices(const struct filing *f, uint8_t *plan) {
     for (uint32_t c = 0; c < 1u << f->n; c++) {
         int met = 1;
         for (int p = 0; p < f->n; p++) plan[p] = c >> (f->n - 1 - p) & 1;
