@@ -200,7 +200,11 @@ pub fn other(look: Look) -> u16
     if look.first < 2 {
         return look.apart;
     }
-    if look.first / 2 != look.complementary / 2 { look.first } else { look.apart }
+    if look.first / 2 != look.complementary / 2 {
+        look.first
+    } else {
+        look.apart
+    }
 }
 
 // Rules 4 to 6, with none true and at least two open.
@@ -316,7 +320,11 @@ pub fn meets(rule: u16, m: Meeting) -> bool
     ensures { λ r. ⌜ r ≡ meetsBy rule (meetingAs m) ⌝ }
 {
     if rule == 7 {
-        if 1 <= m.commons { 1 <= m.crosses } else { false }
+        if 1 <= m.commons {
+            1 <= m.crosses
+        } else {
+            false
+        }
     } else {
         2 <= m.crosses
     }
@@ -382,5 +390,9 @@ pub fn pair_step(table: &[i16], state: State, rule: u16, g: usize, h: usize) -> 
     ensures { λ r. ⌜ fitAs r ≡ pairFit rule (clauseAt (now (table .entry)) (state .values) g) (clauseAt (now (table .entry)) (state .values) h) ⌝ }
 {
     let counts = counts_at(table, state, h);
-    if rule == 7 { first_common(table, state, g, counts) } else { first_crossed(table, state, g, counts) }
+    if rule == 7 {
+        first_common(table, state, g, counts)
+    } else {
+        first_crossed(table, state, g, counts)
+    }
 }

@@ -1,21 +1,20 @@
 -- The whole call: the first n of both lists are cleared, and the walk from the initial state at depth 0 writes over them what document 01 asks.
 use mathlib.Core.Path.{_≡_, refl, ap, sym, _∙_}
-use mathlib.Core.List.{List, [], _∷_, _++_, map, append-assoc}
+use mathlib.Core.List.{List, map, append-assoc}
 use mathlib.Core.Option.{Option, none, some}
-use Prim.Native.Nat.{ℕ, zero, suc, _+_, _-_, _≤_, _<_}
+use Prim.Native.Nat.{ℕ, suc, _+_, _-_, _≤_, _<_}
 use native.Mathlib.Omega.{arith}
 use borrow.Author.Tests.{lt-ltb, le-ltb}
 use lib.IntN.{ℤ, pos as posℤ}
 use lib.ListN.{length, drop, replicate, length-replicate}
 use lib.Seq.{drop-at, drop-append-le}
-use Rattle.general.specs.Booleans.{bit}
 use Rattle.literal.specs.Literal.{entryOf}
 use Rattle.receipt.specs.declared.Refusal.{Refusal}
 use Rattle.receipt.specs.declared.Checked.the-variants.{Refused}
 use Rattle.receipt.specs.declared.Fault.the-variants.{PlanShort, TrailShort}
 use Rattle.theory.specs.Formula.{Formula, Choice, clauses, Within}
 use Rattle.theory.specs.State.{State, initial, opens}
-use Rattle.theory.specs.Tree.{Found, Run, tree, Outcome, laidOut, noLayout, stopped, Result, finished, limited}
+use Rattle.theory.specs.Tree.{Found, Run, tree, Outcome, laidOut, noLayout, stopped, finished, limited}
 use Rattle.theory.specs.Search.{decide, treeOf, search, planOf, trailOf}
 use Rattle.theory.specs.Calls.{over, short, searchAnswer, searchedCall, searchRefused, searchCall}
 use Rattle.theory.proofs.Budget.{finished-outcome}
@@ -29,14 +28,10 @@ use Rattle.rules.proofs.Accepted.{accepted-readable}
 use Rattle.search.specs.declared.Outcome as the-outcome
 use Rattle.search.specs.declared.Outcome.the-variants.{LaidOut, NoLayout, Stopped}
 use Rattle.search.specs.declared.Walk as the-walk
+use Rattle.search.proofs.Lists.{drop-replicate}
 use Rattle.search.specs.Walk.{Walkable, Walked, outcomeOf, numbered, walkedAs, planAfter, trailAfter, walkOf, answered, called}
 
 -- lists that were cleared ------------------------------------------------------------------------------------------
-
-drop-replicate : {A : Type 0} (a : A) (m n : ℕ) → drop m (replicate n a) ≡ replicate (n - m) a
-drop-replicate a zero n = let e : n - 0 ≡ n = omega arith in rw e
-drop-replicate a (suc m) zero = let e : 0 - suc m ≡ 0 = omega arith in rw e
-drop-replicate a (suc m) (suc n) = let e : suc n - suc m ≡ n - m = omega arith in rw e (drop-replicate a m n)
 
 plan-cleared : (n : ℕ) (o : Outcome Choice) (plan : List ℕ) → planAfter n o (over n (replicate n 0) plan) ≡ over n (planOf n o) plan
 plan-cleared n (laidOut a) plan = rw (drop-at (replicate n 0) (drop n plan) n (length-replicate n 0))

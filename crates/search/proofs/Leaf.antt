@@ -1,6 +1,6 @@
 -- The choice at a leaf, by codes: a literal is chosen if it is TRUE, or a negative literal of an open variable.
-use mathlib.Core.Path.{_≡_, refl, ap, sym, _∙_}
-use mathlib.Core.Bool.{Bool, not, cond}
+use mathlib.Core.Path.{_≡_, refl, _∙_}
+use mathlib.Core.Bool.{not, cond}
 use Prim.Native.Nat.{ℕ}
 use lib.Dec.{eqb}
 use Rattle.literal.specs.Literal.{Literal, pos, neg, TRUE, FALSE, same, literalAt}

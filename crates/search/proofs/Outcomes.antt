@@ -2,7 +2,6 @@
 use mathlib.Core.Path.{_≡_, refl, sym, _∙_}
 use mathlib.Core.Logic.{_⊎_, ⊎-elim}
 use Prim.Native.Nat.{ℕ}
-use native.Mathlib.Omega.{arith}
 use denote.Enum.Declared.{tagOf, declared}
 use Rattle.search.specs.declared.Outcome as the-outcome
 use Rattle.search.specs.declared.Outcome.the-variants.{LaidOut, NoLayout, Stopped}

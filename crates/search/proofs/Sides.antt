@@ -36,11 +36,11 @@ module _ (r : the-settled.Settled) (o : Settled) (e : settledAs r ≡ o) where
   settled-rest h = sym e ∙ rw h
 
 module _ (p : ℕ) (o : Option ℕ) (e : variableAt p ≡ o) where
-  pub variable-none : p ≡ 0 → o ≡ none
-  variable-none z = sym e ∙ rw (eq-eqb p 0 z)
+  pub found-none : p ≡ 0 → o ≡ none
+  found-none z = sym e ∙ rw (eq-eqb p 0 z)
 
-  pub variable-some : (p ≡ 0 → ⊥) → o ≡ some p
-  variable-some z = sym e ∙ rw (ne-eqb p 0 z)
+  pub found-some : (p ≡ 0 → ⊥) → o ≡ some p
+  found-some z = sym e ∙ rw (ne-eqb p 0 z)
 
 -- the branch variable and the two sides ------------------------------------------------------------------------------
 
@@ -60,6 +60,9 @@ pub record Side (n : ℕ) (s u : State) : Type 0 where
 
 pub side-fuel : {n : ℕ} {s u : State} → Side n s u → (k : ℕ) → opens s n ≤ k → opens u n < k
 side-fuel s k h = omega (arith, s .closes)
+
+pub side-as : {n : ℕ} {s u w : State} → w ≡ u → Side n s u → Side n s w
+side-as e h = rw e h
 
 module _ {n : ℕ} {s : State} {p : ℕ} (w : WellFormed n s) (o : Open s n p) where
   side : (t : Literal) → Fixed s t → var t ≡ 0 → Side n s (assign (pos p) t s)
@@ -83,18 +86,9 @@ module _ {t : List ℤ} {n : ℕ} {v : List ℕ} {d : ℕ} {plan : List ℕ} {tr
     pub branch-code : c < 514
     branch-code = omega (arith, o .inside, k .small)
 
-    module _ (w : List ℕ) where
-      pub first-state : stateOf w ≡ assign (literalAt c) (literalAt 1) (stateOf v) → stateOf w ≡ assign (pos p) FALSE (stateOf v)
-      first-state says = says ∙ rw (branch-literal, at-code 1 FALSE refl)
-
-      pub second-state : stateOf w ≡ assign (literalAt c) (literalAt 0) (stateOf v) → stateOf w ≡ assign (pos p) TRUE (stateOf v)
-      second-state says = says ∙ rw (branch-literal, at-code 0 TRUE refl)
-
-  pub first-side : (w : List ℕ) → stateOf w ≡ assign (pos p) FALSE (stateOf v) → Side n (stateOf v) (stateOf w)
-  first-side w e = rw e (left-out (k .well) o)
-
-  pub second-side : (w : List ℕ) → stateOf w ≡ assign (pos p) TRUE (stateOf v) → Side n (stateOf v) (stateOf w)
-  second-side w e = rw e (taken (k .well) o)
+    pub side-state : (w : List ℕ) (x : ℕ) (l : Literal) → x ≡ codeOf l → stateOf w ≡ assign (literalAt c) (literalAt x) (stateOf v) →
+        stateOf w ≡ assign (pos p) l (stateOf v)
+    side-state w x l q says = says ∙ rw (branch-literal, at-code x l q)
 
   -- a path from here on has a side at d
   pub depth-inside : d < n

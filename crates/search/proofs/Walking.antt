@@ -1,25 +1,24 @@
 -- Each return of the walk against the definition: what the tree under an allowance makes of a state, and of a split from what its sides make.
 use mathlib.Core.Path.{_≡_, refl, ap, sym, _∙_}
-use mathlib.Core.Bool.{Bool, true, false, cond}
-use mathlib.Core.List.{List, [], _∷_, _++_, map, append-assoc}
-use mathlib.Core.Option.{Option, none, some}
-use Prim.Native.Nat.{ℕ, zero, suc, _+_, _-_, _<_, _≤_, min}
+use mathlib.Core.List.{List, [], _++_, map}
+use mathlib.Core.Option.{none, some}
+use Prim.Native.Nat.{ℕ, zero, suc, _+_, _-_, _<_, _≤_}
 use native.Mathlib.Numerals.{add-one}
 use native.Mathlib.Omega.{arith}
 use lib.IntN.{ℤ}
-use lib.ListN.{length, take, drop, set, length-take, take-append-drop}
-use lib.Seq.{set-append-left, take-set-lt, take-suc-set, length-take-le}
+use lib.ListN.{length, take, drop, take-append-drop}
 use Rattle.general.specs.Booleans.{bit}
 use Rattle.general.specs.Lists.{from, upTo}
 use Rattle.literal.specs.Literal.{Literal, pos, neg, TRUE, FALSE, entryOf}
 use Rattle.theory.specs.Formula.{Formula, Choice, holds}
-use Rattle.theory.specs.State.{State, assign, opens, WellFormed}
+use Rattle.theory.specs.State.{State, assign, opens}
 use Rattle.theory.specs.Propagation.{Settled, dead, rest, settle}
 use Rattle.theory.specs.Tree.{branch, Run, run, visit, tree, Outcome, laidOut, noLayout, stopped, Result, limited}
-use Rattle.theory.specs.Search.{branchVariable, onlyConstant, choiceOf, splitOn, decided, decide}
+use Rattle.theory.specs.Search.{branchVariable, onlyConstant, choiceOf, decided, decide}
 use Rattle.theory.specs.Calls.{over}
 use Rattle.theory.proofs.Budget.{result, outcomeThrough, limited-enough, limited-short, stopped-iff, count-min, limited-none, limited-stopped, limited-first, limited-second}
-use Rattle.search.specs.Walk.{Walked, numbered, planAfter, trailAfter, noted, walkOf}
+use Rattle.search.proofs.Lists.{set-after, map-from}
+use Rattle.search.specs.Walk.{Walked, noted, walkOf}
 
 -- one side more ----------------------------------------------------------------------------------------------------
 
@@ -27,17 +26,12 @@ use Rattle.search.specs.Walk.{Walked, numbered, planAfter, trailAfter, n
 abbrev pub sideOf : ℕ → ℕ → Literal → Walked → Walked
 sideOf k d x w = record { outcome = w .outcome; count = k + w .count; plan = w .plan; trail = noted (w .outcome) d x (w .trail) }
 
-trail-front : {A : Type 0} (d : ℕ) (e : A) (t l : List A) → d < length t → set (take (suc d) t ++ l) d e ≡ take d t ++ (e ∷ l)
-trail-front d e [] l h = absurd (omega arith)
-trail-front zero e (y ∷ t) l h = refl
-trail-front (suc d) e (y ∷ t) l h = ap (_∷_ y) (trail-front d e t l (omega arith))
-
 -- the trail from depth d + 1 on, with the side noted at d, is the trail from d on
 side-walk : (n d : ℕ) (p : List ℕ) (t : List ℤ) (x : Literal) (k c : ℕ) → d < length t → (o : Outcome Choice) →
     sideOf k d x (walkOf n (d + 1) p t (result o c)) ≡ walkOf n d p t (result (outcomeThrough x o) (k + c))
 side-walk n d p t x k c h (laidOut a) =
     let tail : d + 1 + length (a .path) ≡ d + suc (length (a .path)) = omega arith in
-    rw (tail, add-one, trail-front d (entryOf x) t (map entryOf (a .path) ++ drop (d + suc (length (a .path))) t) h)
+    rw (tail, add-one, set-after d (entryOf x) t (map entryOf (a .path) ++ drop (d + suc (length (a .path))) t) h)
 side-walk n d p t x k c h noLayout = refl
 side-walk n d p t x k c h stopped = refl
 
@@ -98,11 +92,6 @@ module _ {S : Type 0} (walk : S → Run Choice) (q : ℕ) (l r : S) (n d : ℕ) 
         go stopped k e = absurd (omega (arith, one, ap (λ (w : Walked). w .outcome) (side-is stopped k e)))
 
 -- the returns of a walk from a state -------------------------------------------------------------------------------
-
-map-from : {A B : Type 0} (f : A → B) (g : ℕ → A) (k n : ℕ) → map f (from g k n) ≡ from (λ i. f (g i)) k n
-unfolding from
-map-from f g k zero = refl
-map-from f g k (suc n) = ap (_∷_ (f (g k))) (map-from f g (suc k) n)
 
 module _ (n : ℕ) (f : Formula) (s : State) (d : ℕ) (p : List ℕ) (t : List ℤ) (left : ℕ) where
   -- a walk with fuel is what is decided of the state

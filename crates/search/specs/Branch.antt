@@ -1,7 +1,7 @@
 -- How code keeps the branch variable, and finds it clause by clause and literal by literal.
 use mathlib.Core.Path.{_≡_}
 use mathlib.Core.Bool.{Bool, true, false, not, _&&_, cond}
-use mathlib.Core.List.{List, [], _∷_}
+use mathlib.Core.List.{[], _∷_}
 use mathlib.Core.Option.{Option, none, some}
 use Prim.Native.Nat.{ℕ, _<_, _≤_, min}
 use lib.Dec.{eqb}

@@ -6,13 +6,14 @@ use lib.Dec.{eqb}
 use lib.IntN.{ℤ}
 use lib.ListN.{length, take, drop, set}
 use Rattle.general.specs.Booleans.{bit}
-use Rattle.literal.specs.Literal.{Literal, entryOf}
+use Rattle.literal.specs.Literal.{Literal, pos, TRUE, FALSE, entryOf}
 use Rattle.receipt.specs.declared.Fault.{Fault}
 use Rattle.receipt.specs.declared.Searching.{Searching}
 use Rattle.receipt.specs.declared.Searching.the-variants as searching
 use Rattle.theory.specs.Formula.{Choice, clauses, Within}
-use Rattle.theory.specs.State.{opens, WellFormed}
-use Rattle.theory.specs.Tree.{Outcome, laidOut, noLayout, stopped, Result}
+use Rattle.theory.specs.State.{assign, opens, WellFormed}
+use Rattle.theory.specs.Tree.{branch, Run, visit, tree, Outcome, laidOut, noLayout, stopped, Result}
+use Rattle.theory.specs.Search.{decide}
 use Rattle.theory.specs.Calls.{over, short, SearchCall}
 use Rattle.state.specs.State.{stateOf}
 use Rattle.rules.specs.Code.{Ready}
@@ -29,6 +30,13 @@ pub record Walkable (t : List ℤ) (n : ℕ) (v : List ℕ) (depth : ℕ) (plan 
   pub plan-room : n ≤ length plan
   pub trail-room : n ≤ length trail
   pub deep : depth + opens (stateOf v) n ≤ n
+
+-- the tree from a state, and from a split of it on p, with fuel f
+abbrev pub treeAt : ℕ → ℕ → List ℤ → List ℕ → Run Choice
+treeAt f n t v = tree (decide n (clauses t)) f (stateOf v)
+
+abbrev pub splitAt : ℕ → ℕ → List ℤ → List ℕ → ℕ → Run Choice
+splitAt f n t v p = visit (tree (decide n (clauses t)) f) (branch p (assign (pos p) FALSE (stateOf v)) (assign (pos p) TRUE (stateOf v)))
 
 pub record Walked : Type 0 where
   pub outcome : ℕ

@@ -4,17 +4,17 @@ ghost use Prim.Native.Nat.{ℕ, _≤_, _<_};
 ghost use lib.ListN.{length};
 ghost use Rattle.general.specs.Booleans.{bit};
 ghost use Rattle.general.specs.Lists.{upTo};
-ghost use Rattle.literal.specs.Literal.{pos, TRUE, FALSE, literalAt};
+ghost use Rattle.literal.specs.Literal.{TRUE, literalAt};
 ghost use Rattle.theory.specs.Formula.{clauses, holds};
-ghost use Rattle.theory.specs.State.{assign, opens};
-ghost use Rattle.theory.specs.Tree.{branch, visit, tree, limited};
-ghost use Rattle.theory.specs.Search.{onlyConstant, branchVariable, decide};
+ghost use Rattle.theory.specs.State.{opens};
 ghost use Rattle.theory.specs.Rules.{occurs};
+ghost use Rattle.theory.specs.Tree.{limited};
+ghost use Rattle.theory.specs.Search.{onlyConstant, branchVariable};
 ghost use Rattle.theory.specs.Calls.{over, searchCall};
 ghost use Rattle.state.specs.State.{stateOf};
 ghost use Rattle.rules.specs.Code.{Ready, clauseAt, lookAs};
 ghost use Rattle.search.specs.Branch.{variableAt, lowered, loweredBy, liveBy, Open};
-ghost use Rattle.search.specs.Walk.{Walkable, outcomeOf, walkedAs, noted, walkOf, answered, refusedFor, called};
+ghost use Rattle.search.specs.Walk.{Walkable, treeAt, splitAt, outcomeOf, walkedAs, noted, walkOf, answered, refusedFor, called};
 use literal::Literal;
 use literal::Variable;
 use receipt::Checked;
@@ -44,7 +44,11 @@ fn live(look: Look) -> bool
     if look.trues != 0 {
         return false;
     }
-    if 1 < look.complementary { 1 < rules::other(look) } else { true }
+    if 1 < look.complementary {
+        1 < rules::other(look)
+    } else {
+        true
+    }
 }
 
 // The lower of two variables, of which the first may be 0, none.
@@ -119,9 +123,17 @@ fn chosen(x: Literal) -> u8
 }
 
 // "Settling hands over to the split": a dead end, a layout, or a split on the lowest open variable of a live clause.
-fn settle_and_decide(table: &[i16], n: usize, state: State, left: u32, depth: usize, plan: &mut [u8], trail: &mut [i16]) -> Walk
+fn settle_and_decide(
+    table: &[i16],
+    n: usize,
+    state: State,
+    left: u32,
+    depth: usize,
+    plan: &mut [u8],
+    trail: &mut [i16],
+) -> Walk
     requires { ⌜ Walkable (now table) n (state .values) depth (now plan) (now trail) ⌝ }
-    ensures { λ r. ⌜ ((f : ℕ) → opens (stateOf (state .values)) n < f → walkedAs r (now (plan .exit)) (now (trail .exit)) ≡ walkOf n depth (now (plan .entry)) (now (trail .entry)) (limited left (tree (decide n (clauses (now (table .entry)))) f (stateOf (state .values))))) ⌝ }
+    ensures { λ r. ⌜ ((f : ℕ) → opens (stateOf (state .values)) n < f → walkedAs r (now (plan .exit)) (now (trail .exit)) ≡ walkOf n depth (now (plan .entry)) (now (trail .entry)) (limited left (treeAt f n (now (table .entry)) (state .values)))) ⌝ }
 {
     let settled = propagate::propagate(table, n, state);
     if settled.dead {
@@ -143,10 +155,19 @@ fn settle_and_decide(table: &[i16], n: usize, state: State, left: u32, depth: us
 }
 
 // "try it left out, and only if that has no layout try it taken". The second side starts from the copy made before the first side runs.
-fn split(table: &[i16], n: usize, state: State, p: u16, left: u32, depth: usize, plan: &mut [u8], trail: &mut [i16]) -> Walk
+fn split(
+    table: &[i16],
+    n: usize,
+    state: State,
+    p: u16,
+    left: u32,
+    depth: usize,
+    plan: &mut [u8],
+    trail: &mut [i16],
+) -> Walk
     requires { ⌜ Walkable (now table) n (state .values) depth (now plan) (now trail) ⌝ }
     requires { ⌜ Open (stateOf (state .values)) n p ⌝ }
-    ensures { λ r. ⌜ ((f : ℕ) → opens (stateOf (state .values)) n ≤ f → walkedAs r (now (plan .exit)) (now (trail .exit)) ≡ walkOf n depth (now (plan .entry)) (now (trail .entry)) (limited left (visit (tree (decide n (clauses (now (table .entry)))) f) (branch p (assign (pos p) FALSE (stateOf (state .values))) (assign (pos p) TRUE (stateOf (state .values))))))) ⌝ }
+    ensures { λ r. ⌜ ((f : ℕ) → opens (stateOf (state .values)) n ≤ f → walkedAs r (now (plan .exit)) (now (trail .exit)) ≡ walkOf n depth (now (plan .entry)) (now (trail .entry)) (limited left (splitAt f n (now (table .entry)) (state .values) p))) ⌝ }
 {
     if left == 0 {
         return Walk {
@@ -156,6 +177,7 @@ fn split(table: &[i16], n: usize, state: State, p: u16, left: u32, depth: usize,
     }
     let second = state;
     let x = Literal::new(Variable(p), true);
+    let opposite = x.opposite();
     let first = state::assign(state, x, Literal(Literal::FALSE));
     let a = settle_and_decide(table, n, first, left - 1, depth + 1, plan, trail);
     let used = a.count;
@@ -173,7 +195,7 @@ fn split(table: &[i16], n: usize, state: State, p: u16, left: u32, depth: usize,
             }
         }
         _ => {
-            note_side(o, trail, depth, x.opposite());
+            note_side(o, trail, depth, opposite);
             Walk {
                 outcome: o,
                 count: 1 + used,
@@ -196,7 +218,13 @@ fn note_side(outcome: Outcome, trail: &mut [i16], depth: usize, side: Literal)
     }
 }
 
-pub fn search(table: &[i16], n: usize, allowance: u32, plan: &mut [u8], trail: &mut [i16]) -> Searching
+pub fn search(
+    table: &[i16],
+    n: usize,
+    allowance: u32,
+    plan: &mut [u8],
+    trail: &mut [i16],
+) -> Searching
     ensures { λ r. ⌜ called r (now (plan .exit)) (now (trail .exit)) ≡ searchCall n (now (table .entry)) allowance (now (plan .entry)) (now (trail .entry)) ⌝ }
 {
     let checked = table::check_table(table, n);
@@ -232,8 +260,5 @@ fn answered(walk: Walk) -> Searching
 fn refused(fault: Fault) -> Searching
     ensures { λ r. ⌜ r ≡ refusedFor fault ⌝ }
 {
-    Searching::Refused(Refusal {
-        fault,
-        place: 0,
-    })
+    Searching::Refused(Refusal { fault, place: 0 })
 }

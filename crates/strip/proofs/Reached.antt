@@ -27,9 +27,11 @@ use Rattle.strip.proofs.Sound.{Sound, Keeps, nothing-sound, sound-lengt
 use Rattle.strip.proofs.Stores.{Grows, obey-grows}
 
 module _ (s : List ℕ) (room : ℕ) where
+  -- the reading of a strip that is not too long
   abbrev pub whole : Reading
   whole = readFrom s room (suc (length s)) 0 nothingRead
 
+  -- the loop's invariant: what was read, whose numbers code keeps, and whose table stands in the first cells
   pub record Reached (at : ℕ) (p : Progress) (cells : List ℤ) : Type 0 where
     pub read : Read
     pub numbers : numbersOf read ≡ p

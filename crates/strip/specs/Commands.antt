@@ -20,6 +20,7 @@ byteOf leftOut = 0x4C
 byteOf closes = 0x45
 byteOf ends = 0x5A
 
+-- the turn of a number; one above 3 counts as after the end, where no command is allowed
 abbrev pub turnAt : ℕ → Turn
 turnAt t = cond (eqb t 0) start (cond (eqb t 1) outside (cond (eqb t 2) inside after))
 
@@ -36,6 +37,7 @@ operandLength (some m) = operandBytes m
 abbrev pub operandIn : List ℕ → ℕ → ℕ → ℕ
 operandIn s i k = cond (eqb k 0) 0 (cond (eqb k 1) (getD s (i + 1) 0) (getD s (i + 1) 0 * 256 + getD s (i + 2) 0))
 
+-- a command as code answers it
 abbrev pub stepAs : Command → Step
 stepAs (command m v next) = step.Command (byteOf m) v next
 stepAs (refused f) = step.Refused f

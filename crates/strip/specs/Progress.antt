@@ -1,4 +1,5 @@
 -- What has been read, by the numbers that code keeps of it: of the table its length.
+use mathlib.Core.Bool.{true, false}
 use mathlib.Core.Option.{Option, none, some}
 use Prim.Native.Nat.{ℕ}
 use lib.IntN.{ℤ, pos}
@@ -6,7 +7,6 @@ use lib.ListN.{length}
 use Rattle.literal.specs.Literal.{entryOf}
 use Rattle.literal.specs.Entry.{made}
 use Rattle.theory.specs.Strip.{Mark, placements, chapter, opens, taken, leftOut, closes, ends, turnNumber, Read, Reading, goes, stops}
-use mathlib.Core.Bool.{true, false}
 use Rattle.strip.specs.declared.Progress.{Progress}
 use Rattle.strip.specs.declared.Obeyed.{Obeyed}
 use Rattle.strip.specs.declared.Obeyed.the-variants.{Goes, Refused}
@@ -15,6 +15,7 @@ abbrev pub numbersOf : Read → Progress
 numbersOf r =
     record { turn = turnNumber (r .turn); variables = r .variables; clauses = r .clauses; literals = r .literals; used = length (r .table) }
 
+-- what a command does, as code answers it
 abbrev pub obeyedAs : Reading → Obeyed
 obeyedAs (goes r) = Goes (numbersOf r)
 obeyedAs (stops f) = Refused f

@@ -239,7 +239,7 @@ fn element(mark: u8, operand: u16) -> i16
 
 // The whole strip -----------------------------------------------------------------------------------------------------
 
-// A table of any filing fits: at most 2,048 entries and 512 zeros.
+// The used length and the elements that are used; a table of any filing fits, with its 2,048 entries and 512 zeros at most.
 pub struct Decoded {
     pub outcome: Checked,
     pub variables: usize,

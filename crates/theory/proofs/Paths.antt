@@ -1,11 +1,10 @@
 -- The path to what the tree finds is no longer than there are open variables, so the first n elements of a trail hold it.
-use mathlib.Core.Path.{_≡_, refl}
+use mathlib.Core.Path.{_≡_}
 use mathlib.Core.Option.{Option, none, some, Option·map}
-use mathlib.Core.List.{List, [], _∷_}
-use Prim.Native.Nat.{ℕ, zero, suc, _+_, _<_, _≤_}
+use Prim.Native.Nat.{ℕ, zero, suc, _<_, _≤_}
 use native.Mathlib.Omega.{arith}
 use lib.ListN.{length}
-use Rattle.literal.specs.Literal.{Literal, pos, neg}
+use Rattle.literal.specs.Literal.{Literal, pos}
 use Rattle.theory.specs.Formula.{Formula, Choice, Within}
 use Rattle.theory.specs.Order.{_≼_}
 use Rattle.theory.specs.Search.{decide, treeOf}

@@ -185,11 +185,15 @@ module _ {n : ℕ} {f : Formula} (within : Within n f) where
                 let tx : value v (h .literal) ≡ TRUE = sym (refines-value (e .refines) (h .literal)) ∙ ap (value v) true-side ∙ base-true base in
                 let fy = beside-true base d k (b .second) (h .literal) (b .second-in) (h .standing-in) (b .second-apart) tx in
                 let fz = beside-true base d k (b .third) (h .literal) (b .third-in) (h .standing-in) (b .third-apart) tx in
-                omega (arith, three .fewer, opens-le (three .state) v n (λ q g.
-                three .kept q (refines-root w (e .well) r q g)
-                (shut v (h .literal) TRUE (h .lives .opened (h .literal) (h .standing-in)) tx refl q g)
-                (shut v (b .second) FALSE (h .lives .opened (b .second) (b .second-in)) fy refl q g)
-                (shut v (b .third) FALSE (h .lives .opened (b .third) (b .third-in)) fz refl q g)))
+                omega (
+                  arith,
+                  three .fewer,
+                  opens-le (three .state) v n (λ q g.
+                      three .kept q (refines-root w (e .well) r q g)
+                      (shut v (h .literal) TRUE (h .lives .opened (h .literal) (h .standing-in)) tx refl q g)
+                      (shut v (b .second) FALSE (h .lives .opened (b .second) (b .second-in)) fy refl q g)
+                      (shut v (b .third) FALSE (h .lives .opened (b .third) (b .third-in)) fz refl q g)),
+                )
 
       narrow-at : (m : ℕ) → opens u n ≤ m → Narrower (WellFormed n) Leaves m (assign (pos p) FALSE u) (assign (pos p) TRUE u)
       narrow-at m l = go (h .literal) refl

@@ -1,6 +1,6 @@
 -- `branch_variable` meets its contract: the lowest so far, taken on over the clauses that are left, is the branch variable.
 use Prim.Native.Nat.{_-_}
-use mathlib.Core.Path.{_≡_, refl, ap, sym, _∙_}
+use mathlib.Core.Path.{_≡_, ap, sym, _∙_}
 use mathlib.Core.Logic.{⊎-elim}
 use borrow.Author.Needs.{needs}
 use native.Mathlib.Omega.{arith}
@@ -17,8 +17,6 @@ use Rattle.search.specs.Branch.{variableAt, liveBy}
 use Rattle.search.proofs.Lowest.{lowestLeft, lowest-first, lowest-live, lowest-not-live, lowest-end, still-later, live-none-true, live-look}
 use Rattle.search.proofs.branch_variable.Statement.{statement}
 use Rattle.search.proofs.branch_variable.Tie as tie
-use Rattle.search.proofs.branch_variable.Reads as reads
-use Rattle.search.proofs.branch_variable.Lts as lts
 
 abbrev Inv-loop : tie.InvT-loop
 Inv-loop table state lowest₀ from₀ lowest from =
@@ -61,7 +59,7 @@ loop-again c =
           (λ w. rw (w .2, w .1 .ensures) (lowest-live (a .table .now) (a .state .values) (further c) o (sym (lives (j .before)) ∙ w .0 .taken)))
           (λ w. rw (w .1) (lowest-not-live (a .table .now) (a .state .values) (further c) o (sym (lives (j .before)) ∙ w .0 .left)))
           (j .if1 .came) ∙
-      l .loop .inv .1,
+          l .loop .inv .1,
     )
 
 returns : tie.Need-returns Inv-loop μ-loop

@@ -1,12 +1,12 @@
 -- `live` meets its contract: none true, and not only a literal and its opposite.
-use mathlib.Core.Path.{_≡_, refl, sym}
+use mathlib.Core.Path.{_≡_}
 use mathlib.Core.Bool.{not}
 use Prim.Native.Nat.{ℕ}
 use native.Mathlib.Decide.{decLt}
 use native.Mathlib.Omega.{arith}
 use borrow.Author.Needs.{needs}
 use borrow.Author.Tests.{eq-eqb, ne-eqb, le-leb, lt-leb, le-ltb, lt-ltb}
-use lib.Dec.{leb, ltb}
+use lib.Dec.{ltb}
 use Rattle.theory.specs.Rules.{isNone}
 use Rattle.rules.specs.Code.{openAt}
 use Rattle.search.proofs.live.Statement.{statement}

@@ -2,9 +2,8 @@
 use mathlib.Core.Path.{_≡_, refl, sym, _∙_}
 use mathlib.Core.Logic.{⊎-elim}
 use mathlib.Core.List.{_∷_}
-use Prim.Native.Nat.{_≤_, _<_, _+_, _-_}
+use Prim.Native.Nat.{_≤_, _+_, _-_}
 use borrow.Author.Needs.{needs}
-use native.Mathlib.Omega.{arith}
 use lib.ListN.{length}
 use Rattle.literal.specs.Literal.{literalAt}
 use Rattle.rules.specs.Code.{clauseAt}
@@ -14,11 +13,6 @@ use Rattle.search.specs.Branch.{variableAt, loweredBy}
 use Rattle.search.proofs.Lowest.{Lowering, lowering-done, lowering-false, lowering-open, lowering-more}
 use Rattle.search.proofs.lowest_at.Statement.{statement}
 use Rattle.search.proofs.lowest_at.Tie as tie
-use Rattle.search.proofs.lowest_at.Reads as reads
-use Rattle.search.proofs.lowest_at.Lts as lts
-use Rattle.literal.proofs.size_at.Reads as size-at-reads
-use Rattle.rules.proofs.standing_at.Reads as standing-at-reads
-use Rattle.search.proofs.lower.Reads as lower-reads
 
 abbrev Inv-loop : tie.InvT-loop
 Inv-loop table from found state lowest₀ i₀ i-end lowest i =

@@ -1,26 +1,13 @@
 -- `search` meets its contract: the check, the room, and the walk from the initial state over cleared lists.
-use mathlib.Core.Path.{_≡_, refl, ap, sym, _∙_}
-use Prim.Native.Nat.{ℕ, _≤_}
+use mathlib.Core.Path.{_≡_, sym, _∙_}
 use borrow.Author.Needs.{needs}
 use native.Mathlib.Omega.{arith}
 use denote.Ref.{now}
 use lib.ListN.{length}
-use Rattle.receipt.specs.declared.Searching.{Searching}
 use Rattle.theory.specs.Table.{Accepted}
-use Rattle.theory.specs.Calls.{SearchCall}
-use Rattle.search.specs.Walk.{called}
 use Rattle.search.proofs.Calling.{call-refused, call-plan-short, call-trail-short, call-walked, start-walkable}
 use Rattle.search.proofs.search.Statement.{statement}
 use Rattle.search.proofs.search.Tie as tie
-use Rattle.search.proofs.search.Reads as reads
-use Rattle.search.proofs.search.Lts as lts
-use Rattle.fill.proofs.clear_bytes.Reads as clear-bytes-reads
-use Rattle.fill.proofs.clear_numbers.Reads as clear-numbers-reads
-use Rattle.search.proofs.answered.Reads as answered-reads
-use Rattle.search.proofs.refused.Reads as refused-reads
-use Rattle.search.proofs.settle_and_decide.Reads as settle-and-decide-reads
-use Rattle.state.proofs.initial.Reads as initial-reads
-use Rattle.table.proofs.check_table.Reads as check-table-reads
 
 returns : tie.Need-returns
 returns c =

@@ -1,5 +1,5 @@
 -- `write_choice` meets its contract, by the laws of Writing.
-use mathlib.Core.Path.{_≡_, refl, ap, sym, _∙_}
+use mathlib.Core.Path.{_≡_, _∙_}
 use Prim.Native.Nat.{ℕ, _+_, _-_, _<_}
 use borrow.Author.Needs.{needs}
 use native.Mathlib.Omega.{arith}
@@ -14,9 +14,6 @@ use Rattle.state.specs.declared.State.{State}
 use Rattle.state.proofs.Values.{stateOf-inside}
 use Rattle.search.proofs.write_choice.Statement.{statement}
 use Rattle.search.proofs.write_choice.Tie as tie
-use Rattle.search.proofs.write_choice.Reads as reads
-use Rattle.search.proofs.write_choice.Lts as lts
-use Rattle.search.proofs.chosen.Reads as chosen-reads
 
 abbrev value : State → ℕ → ℕ
 value s p = bit (holds onlyConstant (stateOf (s .values) p))

@@ -21,8 +21,7 @@ settle-spec =
     (λ c κs. search needs)
     (λ c κs.
     let a = c .before .before .before .before .before .args in
-    let passed = sym (c .before .before .before .before .check-table .ensures) ∙ c .before .before .enum-told .given .1 in
-    (
+    let passed = sym (c .before .before .before .before .check-table .ensures) ∙ c .before .before .enum-told .given .1 in (
       record { readable = accepted-readable (a .n) (a .table .now) passed; range = c .initial .ensures .1 },
       (accepted-within (a .n) (a .table .now) passed, (rw (c .initial .ensures .0) (initial-well (a .n)), accepted-sizes (a .n) (a .table .now) passed .variables)),
     ))

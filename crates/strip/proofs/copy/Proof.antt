@@ -20,27 +20,6 @@ Inv-loop table₀ cells n i₀ table i = Writing (λ p. getD cells (p - 1) (pos 
 abbrev μ-loop : tie.MeasureT-loop
 μ-loop table₀ cells n i₀ table i = n - i
 
-loop-holds : tie.Need-loop-holds Inv-loop μ-loop
-loop-holds c = begun _ _ _
-
-mul-table : tie.Need-mul-table Inv-loop μ-loop
-mul-table c = search needs
-
-shared-slice-copy-out-table : tie.Need-shared-slice-copy-out-table Inv-loop μ-loop
-shared-slice-copy-out-table c = omega arith
-
-mul-t9 : tie.Need-mul-t9 Inv-loop μ-loop
-mul-t9 c = search needs
-
-slice-set-from-table : tie.Need-slice-set-from-table Inv-loop μ-loop
-slice-set-from-table c = search needs
-
-add-i : tie.Need-add-i Inv-loop μ-loop
-add-i c = search needs
-
-loop-less : tie.Need-loop-less Inv-loop μ-loop
-loop-less c = search needs
-
 loop-again : tie.Need-loop-again Inv-loop μ-loop
 loop-again c =
     let l = c .before .before in
@@ -48,9 +27,6 @@ loop-again c =
     let e : 1 + l .loop .i - 1 ≡ l .loop .i = omega arith in
     turned _ _ _ _ _ (l .loop .inv) (l .before .pre .0) (c .before .loop-test .taken) _
     (toZ-ofZ w16 (getD (a .cells .now) (l .loop .i) (pos 0)) (record { sfits = c .table .given }) ∙ rw e)
-
-same-length : tie.Need-same-length Inv-loop μ-loop
-same-length c = search needs
 
 returns : tie.Need-returns Inv-loop μ-loop
 returns c =
@@ -64,13 +40,13 @@ copy-spec =
     (tie.spec
     Inv-loop
     μ-loop
-    loop-holds
-    mul-table
-    shared-slice-copy-out-table
-    mul-t9
-    slice-set-from-table
-    add-i
-    loop-less
+    (λ c. begun _ _ _)
+    (λ c. search needs)
+    (λ c. omega arith)
+    (λ c. search needs)
+    (λ c. search needs)
+    (λ c. search needs)
+    (λ c. search needs)
     loop-again
-    same-length
+    (λ c. search needs)
     returns)
