@@ -1,0 +1,42 @@
+-- Text as bytes: words, numbers, and lines of words.
+use mathlib.Core.Bool.{true, false}
+use mathlib.Core.List.{List, [], _∷_, _++_}
+use Prim.Native.Nat.{ℕ, zero, suc, _+_, _/_, _%_}
+use Prim.Native.Char.{code}
+use Prim.Native.String.{String, [] as empty, _∷_ as character}
+use lib.Dec.{ltb}
+use lib.IntN.{ℤ, pos, negsuc}
+
+-- the codes of a text's characters
+abbrev pub codes : String → List ℕ
+codes empty = []
+codes (character c s) = code c ∷ codes s
+
+-- Numbers ---------------------------------------------------------------------------------------------------------
+
+abbrev pub digit : ℕ → ℕ
+digit d = 48 + d
+
+-- the decimal digits of v, with fuel for so many
+unfoldable pub digitsWithin : ℕ → ℕ → List ℕ
+digitsWithin zero v = []
+digitsWithin (suc k) v = elim (ltb v 10) [ true ↦ digit v ∷ [] | false ↦ digitsWithin k (v / 10) ++ (digit (v % 10) ∷ []) ]
+
+-- a number has no more digits than one more than itself
+unfoldable pub decimal : ℕ → List ℕ
+decimal v = digitsWithin (suc v) v
+
+abbrev pub signed : ℤ → List ℕ
+signed (pos k) = decimal k
+signed (negsuc k) = codes "-" ++ decimal (suc k)
+
+-- Lines -----------------------------------------------------------------------------------------------------------
+
+-- each word after a single space
+unfoldable pub spaced : List (List ℕ) → List ℕ
+spaced [] = []
+spaced (w ∷ ws) = codes " " ++ (w ++ spaced ws)
+
+-- a word, further words, and one newline byte
+abbrev pub line : List ℕ → List (List ℕ) → List ℕ
+line w ws = w ++ (spaced ws ++ codes "\n")

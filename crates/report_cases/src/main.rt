@@ -1,0 +1,97 @@
+// What is printed for filings of document 01, for strips at the limits and for strips that are refused, one report after the other.
+// In a strip P gives the placements, C is a chapter, G opens a group, T is taken, L left out, E closes the group, Z ends the strip.
+ghost use Prim.Native.Nat.{_<_};
+ghost use lib.ListN.{length};
+
+fn show(strip: &[u8]) {
+    let mut out = [0u8; 4096];
+    let printed = report::report(strip, &mut out);
+    io::write_all(1, &out[..printed]);
+}
+
+fn filings() {
+    show(b"P\x00\x03GT\x00\x01T\x00\x02T\x00\x03EZ");
+    show(b"P\x00\x00Z");
+    show(b"P\x00\x02C\x01GT\x00\x01L\x00\x02EC\x02Z");
+    show(b"P\x00\x01GEZ");
+    show(
+        b"P\x00\x04GT\x00\x01T\x00\x02T\x00\x03EGT\x00\x01T\x00\x02T\x00\x04EGT\x00\x01T\x00\x03T\x00\x04EZ",
+    );
+    show(
+        b"P\x00\x04GT\x00\x01T\x00\x02T\x00\x03EGT\x00\x01T\x00\x02T\x00\x04EGT\x00\x01T\x00\x03T\x00\x04EGT\x00\x02T\x00\x03T\x00\x04EZ",
+    );
+    show(b"P\x00\x06GT\x00\x01T\x00\x02T\x00\x03EGT\x00\x04T\x00\x05T\x00\x06EZ");
+    show(b"P\x01\x00GT\x00\xfeT\x00\xffT\x01\x00EZ");
+}
+
+fn refusals() {
+    show(b"P\x01\x01Z");
+    show(b"P\x00\x02GT\x00\x03EZ");
+    show(b"P\x00\x02GT\x00\x01L\x00\x00EZ");
+    show(b"P\x00\x01A");
+    show(b"");
+    show(b"P\x00");
+    show(b"P\x00\x01GT\x00\x01E");
+    show(b"P\x00\x01GT\x00");
+    show(b"GEZ");
+    show(b"P\x00\x01P\x00\x01Z");
+    show(b"P\x00\x01GZ");
+    show(b"P\x00\x01Z\x00");
+    show(b"P\x00\x01ZZ");
+}
+
+// The rest of the strip repeats a part.
+fn repeat(strip: &mut [u8], from: usize, part: &[u8])
+    requires { ⌜ 0 < length (now part) ⌝ }
+{
+    let mut k = 0;
+    for i in from..strip.len() {
+        strip[i] = part[k];
+        k = if k + 1 < part.len() { k + 1 } else { 0 };
+    }
+}
+
+// 512 groups, with chapters between them, and one more.
+fn groups() {
+    let mut all = [0u8; 2052];
+    all[0] = b'P';
+    repeat(&mut all, 3, b"GEC\x01");
+    all[2051] = b'Z';
+    show(&all);
+    all[2051] = b'G';
+    show(&all);
+}
+
+// 2,048 entries, and one more.
+fn entries() {
+    let mut all = [0u8; 6152];
+    all[0] = b'P';
+    all[2] = 1;
+    all[3] = b'G';
+    repeat(&mut all, 4, b"T\x00\x01");
+    all[6148] = b'E';
+    all[6149] = b'C';
+    all[6151] = b'Z';
+    show(&all);
+    all[6148] = b'T';
+    all[6149] = 0;
+    show(&all);
+}
+
+// 16,384 bytes, and one more.
+fn lengths() {
+    let mut all = [0u8; 16384];
+    all[0] = b'P';
+    repeat(&mut all, 3, b"C\x01");
+    all[16383] = b'Z';
+    show(&all);
+    show(&[b'P'; 16385]);
+}
+
+fn main() {
+    filings();
+    refusals();
+    groups();
+    entries();
+    lengths();
+}
