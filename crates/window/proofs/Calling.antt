@@ -1,14 +1,13 @@
 -- What code puts on the receipt and in the plan is the call of the window.
-use mathlib.Core.Path.{_≡_, refl, ap, sym, _∙_, subst₂}
+use mathlib.Core.Path.{_≡_, refl, ap, sym, _∙_}
 use mathlib.Core.Bool.{true, false}
 use mathlib.Core.List.{List, [], _∷_, _++_}
 use Prim.Native.Nat.{ℕ, _+_, _/_, _%_, _<_, _≤_}
 use native.Mathlib.Omega.{arith}
 use borrow.Author.Tests.{lt-ltb, le-ltb}
 use lib.IntN.{ℤ}
-use lib.ListN.{length, drop, take}
+use lib.ListN.{length, take}
 use lib.Seq.{sets-eq}
-use Rattle.receipt.specs.declared.Checked.{Checked}
 use Rattle.receipt.specs.declared.Checked.the-variants.{Passed, Refused}
 use Rattle.receipt.specs.declared.Fault.the-variants.{PlanShort}
 use Rattle.receipt.specs.declared.Refusal.{Refusal}
@@ -17,13 +16,13 @@ use Rattle.receipt.specs.Receipt.{Receipt, receipt, refusal, searchingReceipt}
 use Rattle.theory.specs.Formula.{Choice}
 use Rattle.theory.specs.Tree.{Outcome, laidOut, noLayout, stopped, Result}
 use Rattle.theory.specs.Search.{search}
-use Rattle.theory.specs.Table.{check, Accepted}
+use Rattle.theory.specs.Table.{Accepted}
 use Rattle.theory.specs.Calls.{over, short, bytes4, receiptBytes, Run, ran, searchAnswer, searchedRun, runOf, SearchCall, searchedCall, searchCall, WindowCall, written, windowRoom, windowCall}
-use Rattle.theory.specs.Strip.{Read, Reading, goes, stops, readStrip, maxStrip}
-use Rattle.strip.specs.Decoding.{Decoding, decodingOf, decodingAs}
+use Rattle.theory.specs.Strip.{readStrip}
+use Rattle.strip.specs.Decoding.{decodingOf, decodingAs}
 use Rattle.strip.specs.declared.Decoded.{Decoded}
 use Rattle.theory.proofs.Tables.{accepted-sizes}
-use Rattle.strip.proofs.Accepted.{read-accepted, read-fits}
+use Rattle.strip.proofs.Decodings.{Passes, passes, refused-reads, decoded-accepted}
 use Rattle.strip.proofs.Places.{refusal-bound}
 use Rattle.search.proofs.Calling.{call-accepted}
 use Rattle.window.specs.Stamp.{stampAs, put4, ranAs, called}
@@ -33,61 +32,39 @@ use Rattle.window.specs.declared.Stamp as the-stamp
 pub three-numbers : (r : Receipt) (l a b c : List ℕ) → 12 ≤ length l → a ≡ put4 0 (r .number) l → b ≡ put4 4 (r .place) a → c ≡ put4 8 (r .count) b → c ≡ over 12 (receiptBytes r) l
 three-numbers r l a b c h p q e = rw (e, q, p) (sets-eq (receiptBytes r) l 0 h)
 
--- what the decoding says of the strip
-decoded-stops : (x : Reading) (d : Decoding) (f : Refusal) → d ≡ decodingOf x → d .outcome ≡ Refused f → x ≡ stops f
-decoded-stops (goes r) d f e q = absurd (let z : _≡_ {A = Checked} Passed (Refused f) = sym (ap (λ (k : Decoding). k .outcome) e) ∙ q in let o : _≡_ {A = ℕ} 0 1 = cc in omega arith)
-decoded-stops (stops g) d f e q = let z : _≡_ {A = Checked} (Refused g) (Refused f) = sym (ap (λ (k : Decoding). k .outcome) e) ∙ q in cc
-
-pub record Passes (x : Reading) (d : Decoding) : Type 0 where
-  pub read : Read
-  pub is : x ≡ goes read
-  pub variables : d .variables ≡ read .variables
-  pub used : d .used ≡ length (read .table)
-  pub table : d .table ≡ read .table
-
-decoded-goes : (x : Reading) (d : Decoding) → d ≡ decodingOf x → d .outcome ≡ Passed → Passes x d
-decoded-goes (goes r) d e q = record {
-  read = r;
-  is = refl;
-  variables = ap (λ (k : Decoding). k .variables) e;
-  used = ap (λ (k : Decoding). k .used) e;
-  table = ap (λ (k : Decoding). k .table) e;
-}
-decoded-goes (stops g) d e q = absurd (let z : _≡_ {A = Checked} (Refused g) Passed = sym (ap (λ (k : Decoding). k .outcome) e) ∙ q in let o : _≡_ {A = ℕ} 0 1 = cc in omega arith)
-
-module _ (s : List ℕ) (d : Decoding) (e : d ≡ decodingOf (readStrip s windowRoom)) (b : ℕ) (plan : List ℕ) where
+module _ (s : List ℕ) (d : Decoded) (e : decodingAs d ≡ decodingOf (readStrip s windowRoom)) (b : ℕ) (plan : List ℕ) where
   -- a refused strip
   pub refused-bound : (f : Refusal) → d .outcome ≡ Refused f → f .place ≤ 16384
-  refused-bound f q = refusal-bound s windowRoom f (decoded-stops (readStrip s windowRoom) d f e q)
+  refused-bound f q = refusal-bound s windowRoom f (refused-reads s windowRoom d e f q)
 
   pub run-refused : (f : Refusal) (t : the-stamp.Stamp) → d .outcome ≡ Refused f → stampAs t ≡ refusal f → ranAs t plan ≡ runOf (readStrip s windowRoom) b plan
-  run-refused f t q p = ap (λ (r : Receipt). ran r plan) p ∙ rw (decoded-stops (readStrip s windowRoom) d f e q)
+  run-refused f t q p = ap (λ (r : Receipt). ran r plan) p ∙ rw (refused-reads s windowRoom d e f q)
 
   module _ (q : d .outcome ≡ Passed) where
-    pub passes : Passes (readStrip s windowRoom) d
-    passes = decoded-goes (readStrip s windowRoom) d e q
+    abbrev passed : Passes s windowRoom d e q
+    passed = passes s windowRoom d e q
+
+    -- the table that was read
+    abbrev table : List ℤ
+    table = take (d .used) (d .cells)
 
     pub run-short : (t : the-stamp.Stamp) → length plan < d .variables → stampAs t ≡ refusal (short PlanShort) → ranAs t plan ≡ runOf (readStrip s windowRoom) b plan
-    run-short t h p = ap (λ (r : Receipt). ran r plan) p ∙ rw (passes .is, lt-ltb (length plan) (passes .read .variables) (rw (passes .variables) at h))
+    run-short t h p = ap (λ (r : Receipt). ran r plan) p ∙ rw (passed .reads, lt-ltb (length plan) (passed .read .variables) (rw (passed .variables) at h))
 
-    -- the table that was read is accepted
-    pub accepted : Accepted (d .variables) (d .table)
-    accepted = subst₂ Accepted (sym (passes .variables)) (sym (passes .table)) (read-accepted s windowRoom (passes .read) (passes .is))
+    accepted : Accepted (d .variables) table
+    accepted = decoded-accepted s windowRoom d e q
 
     pub few : d .variables ≤ 256
-    few = accepted-sizes (d .variables) (d .table) accepted .variables
-
-    pub used-room : d .used ≤ 2560
-    used-room = rw (passes .used) (read-fits s windowRoom (passes .read) (passes .is))
+    few = accepted-sizes (d .variables) table accepted .variables
 
     -- what the search answers, whatever trail it was lent
-    module _ (a : Searching) (plan′ : List ℕ) (trail trail′ : List ℤ) (is : record { answer = a; plan = plan′; trail = trail′ } ≡ searchCall (d .variables) (d .table) b plan trail)
+    module _ (a : Searching) (plan′ : List ℕ) (trail trail′ : List ℤ) (is : record { answer = a; plan = plan′; trail = trail′ } ≡ searchCall (d .variables) table b plan trail)
         (room : d .variables ≤ length plan) (long : d .variables ≤ length trail) where
       abbrev found : Result Choice
-      found = search (d .variables) (d .table) b
+      found = search (d .variables) table b
 
       searched : _≡_ {A = SearchCall} (record { answer = a; plan = plan′; trail = trail′ }) (searchedCall (d .variables) found plan trail)
-      searched = is ∙ sym (call-accepted (d .variables) (d .table) b plan trail accepted room long)
+      searched = is ∙ sym (call-accepted (d .variables) table b plan trail accepted room long)
 
       pub answer-place : searchingReceipt a .place ≤ 16384
       answer-place = rw (ap (λ (c : SearchCall). c .answer) searched) (go (found .outcome))
@@ -98,13 +75,13 @@ module _ (s : List ℕ) (d : Decoding) (e : d ≡ decodingOf (readStrip s window
           go stopped = omega arith
 
       pub run-searched : (t : the-stamp.Stamp) → stampAs t ≡ searchingReceipt a → ranAs t plan′ ≡ runOf (readStrip s windowRoom) b plan
-      run-searched t p = ran-is ∙ rw (passes .is, le-ltb (length plan) (passes .read .variables) (rw (passes .variables) at room))
+      run-searched t p = ran-is ∙ rw (passed .reads, le-ltb (length plan) (passed .read .variables) (rw (passed .variables) at room))
         where
-          ran-is : ranAs t plan′ ≡ searchedRun (passes .read .variables) (search (passes .read .variables) (passes .read .table) b) plan
+          ran-is : ranAs t plan′ ≡ searchedRun (passed .read .variables) (search (passed .read .variables) (passed .read .table) b) plan
           ran-is =
               (λ i. ran (p i) plan′) ∙
               (λ i. ran (searchingReceipt (searched i .answer)) (searched i .plan)) ∙
-              (λ i. searchedRun (passes .variables i) (search (passes .variables i) (passes .table i) b) plan)
+              (λ i. searchedRun (passed .variables i) (search (passed .variables i) (passed .table i) b) plan)
 
 -- the whole call ---------------------------------------------------------------------------------------------------
 

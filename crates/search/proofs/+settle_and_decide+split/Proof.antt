@@ -175,12 +175,6 @@ trail-long t c = c .settle-and-decide .kept .1 .1 .1 .1 .1 .1 .0
 first-count : (t : ℕ) (c : FirstWalked t) → c .settle-and-decide .result .count ≤ c .before .before .before .before .before .before .before .before .args .left - 1
 first-count t c = walk-count _ _ _ _ _ _ _ _ (c .settle-and-decide .ensures)
 
-split-assign-requires-2 : (t : ℕ) → split-lts.Need-assign-requires-2 (split-calls t) (split-at t) split.Post
-split-assign-requires-2 t c κs =
-    let n = c .before .before .before .before .before .before .before .before .before .before in
-    let w = n .before .before .before .pre .1 in
-    (branch-code (w .0) (w .1) (n .new .result .0) (n .new .ensures), (omega arith, w .0 .ready .range))
-
 -- the second side starts from the state before the split
 second-taken : (t : ℕ) (c : Second t) →
     let a = c .before .before .before .before .before .before .before .before .before .before .before .before .before .before .args in stateOf (c .assign2 .result .values) ≡ assign (pos (a .p)) TRUE (stateOf (a .state .values))
@@ -188,6 +182,12 @@ second-taken t c =
     let n = c .before .before .before .before .before .before .before .before .before .before .before in
     let w = n .before .before .before .pre .1 in
     side-state (w .0) (w .1) (n .new .result .0) (n .new .ensures) _ 0 TRUE refl (c .assign2 .ensures .0)
+
+split-assign-requires-2 : (t : ℕ) → split-lts.Need-assign-requires-2 (split-calls t) (split-at t) split.Post
+split-assign-requires-2 t c κs =
+    let n = c .before .before .before .before .before .before .before .before .before .before in
+    let w = n .before .before .before .pre .1 in
+    (branch-code (w .0) (w .1) (n .new .result .0) (n .new .ensures), (omega arith, w .0 .ready .range))
 
 split-settle-and-decide-requires-2 : (t : ℕ) → split-lts.Need-settle-and-decide-requires-2 (split-calls t) (split-at t) split.Post
 split-settle-and-decide-requires-2 t c κs =

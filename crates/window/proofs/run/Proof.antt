@@ -2,10 +2,11 @@
 use mathlib.Core.Path.{_≡_, refl, ap, sym, _∙_}
 use borrow.Author.Needs.{needs}
 use native.Mathlib.Omega.{arith}
+use Prim.Native.Nat.{_≤_}
 use mathlib.Core.List.{[]}
 use lib.ListN.{length, length-take}
-use Rattle.strip.specs.Decoding.{decodingAs}
-use Rattle.window.proofs.Calling.{refused-bound, run-refused, run-short, few, used-room, answer-place, run-searched}
+use Rattle.strip.proofs.Decodings.{used-in-cells}
+use Rattle.window.proofs.Calling.{refused-bound, run-refused, run-short, few, answer-place, run-searched}
 use Rattle.window.proofs.run.Statement.{statement}
 use Rattle.window.proofs.run.Tie as tie
 
@@ -15,27 +16,27 @@ run-spec =
     (tie.spec
     (λ c κs. search needs)
     (λ c. search needs)
-    (λ c κs. refused-bound _ (decodingAs (c .before .before .before .decode .result)) (c .before .before .before .decode .ensures) (c .before .before .before .before .before .before .args .allowance) (c .before .before .before .before .before .before .args .plan .now) _ (c .before .outcome .given .1))
-    (λ c. run-refused _ (decodingAs (c .before .before .before .before .decode .result)) (c .before .before .before .before .decode .ensures) _ _ _ (c .refused .result) (c .before .before .outcome .given .1) (c .refused .ensures))
+    (λ c κs. refused-bound _ (c .before .before .before .decode .result) (c .before .before .before .decode .ensures) (c .before .before .before .before .before .before .args .allowance) (c .before .before .before .before .before .before .args .plan .now) _ (c .before .outcome .given .1))
+    (λ c. run-refused _ (c .before .before .before .before .decode .result) (c .before .before .before .before .decode .ensures) _ _ _ (c .refused .result) (c .before .before .outcome .given .1) (c .refused .ensures))
     (λ c. search needs)
     (λ c κs. search needs)
-    (λ c. run-short _ (decodingAs (c .before .before .before .before .decode .result)) (c .before .before .before .before .decode .ensures) _ _ (c .before .before .enum-told .given .1) (c .refused2 .result) (c .before .if1 .taken) (c .refused2 .ensures))
+    (λ c. run-short _ (c .before .before .before .before .decode .result) (c .before .before .before .before .decode .ensures) _ _ (c .before .before .enum-told .given .1) (c .refused2 .result) (c .before .if1 .taken) (c .refused2 .ensures))
     (λ c.
     let d = c .before .before .before .before in
-    let long : length (d .decode .result .cells) ≡ 2560 = search needs in
-    omega (arith, used-room _ (decodingAs (d .decode .result)) (d .decode .ensures) 0 [] (c .before .before .enum-told .given .1)))
+    used-in-cells _ 2560 (d .decode .result) (d .decode .ensures) (c .before .before .enum-told .given .1))
     (λ c.
     let d = c .before .before .before .before .before in
-    let long : length (d .decode .result .cells) ≡ 2560 = search needs in
-    simp length-take (omega (arith, used-room _ (decodingAs (d .decode .result)) (d .decode .ensures) 0 [] (c .before .before .before .enum-told .given .1))))
+    let inside : d .decode .result .used ≤ length (d .decode .result .cells) =
+    used-in-cells _ 2560 (d .decode .result) (d .decode .ensures) (c .before .before .before .enum-told .given .1) in
+    simp length-take (omega arith))
     (λ c. search needs)
     (λ c κs. search needs)
     (λ c κs.
     let d = c .before .before .before .before .before .before .before .before .before .before .before in
-    answer-place _ (decodingAs (d .decode .result)) (d .decode .ensures) _ _ (c .before .before .before .before .before .before .before .before .before .enum-told .given .1) (c .before .before .before .search .result) _ _ _ (c .before .before .before .search .ensures) (c .before .before .before .before .before .before .before .before .if1 .left)
-    (omega (arith, few _ (decodingAs (d .decode .result)) (d .decode .ensures) 0 [] (c .before .before .before .before .before .before .before .before .before .enum-told .given .1))))
+    answer-place _ (d .decode .result) (d .decode .ensures) _ _ (c .before .before .before .before .before .before .before .before .before .enum-told .given .1) (c .before .before .before .search .result) _ _ _ (c .before .before .before .search .ensures) (c .before .before .before .before .before .before .before .before .if1 .left)
+    (omega (arith, few _ (d .decode .result) (d .decode .ensures) 0 [] (c .before .before .before .before .before .before .before .before .before .enum-told .given .1))))
     (λ c. search needs)
     (λ c.
     let d = c .before .before .before .before .before .before .before .before .before .before .before .before in
-    run-searched _ (decodingAs (d .decode .result)) (d .decode .ensures) _ _ (c .before .before .before .before .before .before .before .before .before .before .enum-told .given .1) (c .before .before .before .before .search .result) _ _ _ (c .before .before .before .before .search .ensures) (c .before .before .before .before .before .before .before .before .before .if1 .left)
-    (omega (arith, few _ (decodingAs (d .decode .result)) (d .decode .ensures) 0 [] (c .before .before .before .before .before .before .before .before .before .before .enum-told .given .1))) (c .answered .result) (c .answered .ensures)))
+    run-searched _ (d .decode .result) (d .decode .ensures) _ _ (c .before .before .before .before .before .before .before .before .before .before .enum-told .given .1) (c .before .before .before .before .search .result) _ _ _ (c .before .before .before .before .search .ensures) (c .before .before .before .before .before .before .before .before .before .if1 .left)
+    (omega (arith, few _ (d .decode .result) (d .decode .ensures) 0 [] (c .before .before .before .before .before .before .before .before .before .before .enum-told .given .1))) (c .answered .result) (c .answered .ensures)))
