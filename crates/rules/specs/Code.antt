@@ -73,8 +73,3 @@ meetingAs m = record { trues = m .trues; stands = m .stands; commons = m .common
 -- v counts the literals of a clause by their codes
 pub record CountsOf (v : List ℕ) (c : Clause) : Type 0 where
   pub each : (x : ℕ) → x < 514 → getD v x 0 ≡ occurs (literalAt x) c
-
--- a step's literals are codes of variables up to 256
-pub record StepCodes (f : the-fit.Fit) : Type 0 where
-  pub x-below : f .x < 514
-  pub t-below : f .t < 514
