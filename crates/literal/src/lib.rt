@@ -18,6 +18,10 @@ pub enum Literal {
 }
 
 impl Literal {
+    pub const TRUE: Literal = Literal::Pos(0);
+
+    pub const FALSE: Literal = Literal::Neg(0);
+
     pub const MAX_VARIABLES: usize = 256;
 
     pub const MAX_CLAUSES: usize = 512;
