@@ -1,17 +1,24 @@
 // Searches document 01's filings, and calls that are refused. Each line is the answer's number, place and count, and the first seven elements of plan and
 // trail, all 9 before the call.
+use receipt::Receipt;
+
+fn shown(receipt: Receipt, plan: &[u8], trail: &[i16]) {
+    show::receipt(receipt);
+    show::number(receipt.count as u64);
+    show::text(b" |");
+    show::bytes(plan);
+    if 0 < trail.len() {
+        show::text(b" |");
+        show::entries(trail);
+    }
+    show::text(b"\n");
+}
+
 fn try_one(table: &[i16], n: usize, allowance: u32) {
     let mut plan = [9u8; 7];
     let mut trail = [9i16; 7];
     let answer = search::search(table, n, allowance, &mut plan, &mut trail);
-    let receipt = answer.receipt();
-    show::receipt(receipt);
-    show::number(receipt.count as u64);
-    show::text(b" |");
-    show::bytes(&plan);
-    show::text(b" |");
-    show::entries(&trail);
-    show::text(b"\n");
+    shown(answer.receipt(), &plan, &trail);
 }
 
 fn filings() {
@@ -50,9 +57,8 @@ fn refusals() {
 fn short_trail() {
     let mut plan = [9u8; 7];
     let mut trail = [9i16; 0];
-    answer(search::search(&[1i16, 0], 1, 100, &mut plan, &mut trail));
-    show_plan(&plan);
-    text(b"\n");
+    let answer = search::search(&[1i16, 0], 1, 100, &mut plan, &mut trail);
+    shown(answer.receipt(), &plan, &trail);
 }
 
 fn main() {
