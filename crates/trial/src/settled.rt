@@ -1,0 +1,94 @@
+// The lists that Settle writes: 257 taken, -257 left out, +p open, +r or -r tied to r.
+use super::lists::byte_at;
+use super::lists::entry_at;
+use super::lists::more;
+use super::lists::size;
+
+const TAKEN: i16 = 257;
+
+const LEFT_OUT: i16 = -257;
+
+fn follows_at(list: &[i16], assignment: &[u8], i: usize) -> bool {
+    let value = entry_at(list, i);
+    let bit = byte_at(assignment, i);
+    if value == TAKEN {
+        return bit == 1;
+    }
+    if value == LEFT_OUT {
+        return bit == 0;
+    }
+    let root = size(value);
+    if root == 0 {
+        return false;
+    }
+    if value < 0 {
+        return bit != byte_at(assignment, root - 1);
+    }
+    bit == byte_at(assignment, root - 1)
+}
+
+// Whether an assignment is as the list says.
+pub fn follows(list: &[i16], assignment: &[u8], n: usize) -> bool {
+    for i in 0..n {
+        if !follows_at(list, assignment, i) {
+            return false;
+        }
+    }
+    true
+}
+
+// How many variables a list says are taken, left out, open or tied, and how many of its elements say nothing that Settle may.
+pub struct Forms {
+    pub taken: usize,
+    pub left_out: usize,
+    pub free: usize,
+    pub tied: usize,
+    pub wrong: usize,
+}
+
+impl Forms {
+    pub fn new() -> Forms {
+        Forms {
+            taken: 0,
+            left_out: 0,
+            free: 0,
+            tied: 0,
+            wrong: 0,
+        }
+    }
+
+    fn with(mut self, list: &[i16], i: usize) -> Forms {
+        let value = entry_at(list, i);
+        let root = size(value);
+        if value == TAKEN {
+            self.taken = more(self.taken);
+        } else if value == LEFT_OUT {
+            self.left_out = more(self.left_out);
+        } else if 0 < value && 0 < root && root - 1 == i {
+            self.free = more(self.free);
+        } else if is_tie(list, i, root) {
+            self.tied = more(self.tied);
+        } else {
+            self.wrong = more(self.wrong);
+        }
+        self
+    }
+}
+
+// "tied to a lower open placement"
+fn is_tie(list: &[i16], i: usize, root: usize) -> bool {
+    if root == 0 || i < root {
+        return false;
+    }
+    let stands = entry_at(list, root - 1);
+    stands > 0 && size(stands) == root
+}
+
+// The forms of a list's first n elements, counted onto others.
+pub fn forms_of(list: &[i16], n: usize, before: Forms) -> Forms {
+    let mut forms = before;
+    for i in 0..n {
+        forms = forms.with(list, i);
+    }
+    forms
+}

@@ -1,0 +1,156 @@
+// Which tables are refused, with number and place, by counting each thing over the whole table.
+use super::lists::entry_at;
+use super::lists::more;
+use super::lists::part;
+use super::lists::size;
+
+pub const MAX_VARIABLES: usize = 256;
+
+pub const MAX_CLAUSES: usize = 512;
+
+pub const MAX_LITERALS: usize = 2048;
+
+pub enum Verdict {
+    Passes,
+    Refused { number: u32, place: usize },
+}
+
+fn refused(number: u32, place: usize) -> Verdict {
+    Verdict::Refused { number, place }
+}
+
+impl Verdict {
+    pub fn passes(self) -> bool {
+        let verdict = self;
+        match verdict {
+            Verdict::Passes => true,
+            Verdict::Refused {
+                number: _,
+                place: _,
+            } => false,
+        }
+    }
+
+    // The receipt's number, which is `passed` where nothing is refused.
+    pub fn number(self, passed: u32) -> u32 {
+        let verdict = self;
+        match verdict {
+            Verdict::Passes => passed,
+            Verdict::Refused { number, place: _ } => number,
+        }
+    }
+
+    pub fn place(self) -> usize {
+        let verdict = self;
+        match verdict {
+            Verdict::Passes => 0,
+            Verdict::Refused { number: _, place } => place,
+        }
+    }
+
+    // Refused with this number besides, where a lent list has less room than it needs.
+    pub fn then_room(self, room: usize, need: usize, number: u32) -> Verdict {
+        let verdict = self;
+        match verdict {
+            Verdict::Passes => {
+                if room < need {
+                    refused(number, 0)
+                } else {
+                    Verdict::Passes
+                }
+            }
+            Verdict::Refused {
+                number: _,
+                place: _,
+            } => verdict,
+        }
+    }
+}
+
+// The elements that are zeros, or those that are not.
+pub fn count(list: &[i16], zeros: bool) -> usize {
+    let mut found = 0;
+    for i in 0..list.len() {
+        if (entry_at(list, i) == 0) == zeros {
+            found = more(found);
+        }
+    }
+    found
+}
+
+fn is_unknown(entry: i16, n: usize, zero_allowed: bool) -> bool {
+    if entry == 0 {
+        return !zero_allowed;
+    }
+    n < size(entry)
+}
+
+// The first index of an element that is no entry of n variables; the length where there is none.
+fn first_unknown(list: &[i16], n: usize, zero_allowed: bool) -> usize {
+    for i in 0..list.len() {
+        if is_unknown(entry_at(list, i), n, zero_allowed) {
+            return i;
+        }
+    }
+    list.len()
+}
+
+fn is_open(table: &[i16]) -> bool {
+    let length = table.len();
+    if length == 0 {
+        return false;
+    }
+    entry_at(table, length - 1) != 0
+}
+
+// "Tables: 1, 2, 3, 4, 5"
+pub fn of_table(table: &[i16], n: usize) -> Verdict {
+    if MAX_VARIABLES < n {
+        return refused(1, 0);
+    }
+    if MAX_CLAUSES < count(table, true) {
+        return refused(2, 0);
+    }
+    if MAX_LITERALS < count(table, false) {
+        return refused(3, 0);
+    }
+    if is_open(table) {
+        return refused(4, 0);
+    }
+    let unknown = first_unknown(table, n, true);
+    if unknown < table.len() {
+        return refused(5, unknown);
+    }
+    Verdict::Passes
+}
+
+// "2 and 3 with the group added (each element of the list counts as an entry), 5 on the list (place u plus its index there), 23"
+fn of_clause(used: &[i16], n: usize, clause: &[i16], room: usize) -> Verdict {
+    if MAX_CLAUSES < more(count(used, true)) {
+        return refused(2, 0);
+    }
+    if MAX_LITERALS < clause.len() || MAX_LITERALS - clause.len() < count(used, false) {
+        return refused(3, 0);
+    }
+    let unknown = first_unknown(clause, n, false);
+    if unknown < clause.len() {
+        return refused(5, std::num::wrapping_add_usize(used.len(), unknown));
+    }
+    if room <= clause.len() {
+        return refused(23, 0);
+    }
+    Verdict::Passes
+}
+
+// "Add: 12, then 1 to 5 on the used part", and the rest.
+pub fn of_added(buffer: &[i16], used: usize, n: usize, clause: &[i16]) -> Verdict {
+    if buffer.len() < used {
+        return refused(12, 0);
+    }
+    let before = part(buffer, 0, used);
+    let verdict = of_table(before, n);
+    if verdict.passes() {
+        return of_clause(before, n, clause, buffer.len() - used);
+    }
+    verdict
+}
