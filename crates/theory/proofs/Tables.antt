@@ -2,15 +2,15 @@
 use mathlib.Core.Path.{_≡_, refl, ap, sym, _∙_}
 use mathlib.Core.Bool.{Bool, true, false, not, _||_, cond}
 use mathlib.Core.Logic.{_⊎_, ⊎-elim, _↔_, _≢_}
-use mathlib.Core.List.{List, [], _∷_, _++_, List·Memᴰ, List·Memᴰ·head, List·Memᴰ·tail, List·Memᴰ·not-nil, List·Memᴰ·cases-cons}
+use mathlib.Core.List.{List, [], _∷_, _++_, map, List·Memᴰ, List·Memᴰ·head, List·Memᴰ·tail, List·Memᴰ·not-nil, List·Memᴰ·cases-cons}
 use Prim.Native.Nat.{ℕ, zero, suc, _+_, _<_, _≤_}
 use native.Mathlib.Omega.{arith}
 use lib.Dec.{ltb, eqb, eqb·suc-zero}
 use lib.IntN.{ℤ, negsuc, natAbs, pos as posℤ}
 use lib.ListN.{length}
-use borrow.Author.Tests.{ltb-false, le-ltb, eqb-true, eqb-false, not-false}
+use borrow.Author.Tests.{ltb-false, le-ltb, eqb-true, eqb-false, ne-eqb, not-false}
 use Rattle.general.specs.Booleans.{true-not-false, bit-not}
-use Rattle.literal.specs.Literal.{Literal, pos, neg, var, maxVariables, maxClauses, maxLiterals}
+use Rattle.literal.specs.Literal.{Literal, pos, neg, var, literalOf, maxVariables, maxClauses, maxLiterals}
 use Rattle.receipt.specs.declared.Checked.{Checked}
 use Rattle.receipt.specs.declared.Refusal.{Refusal}
 use Rattle.receipt.specs.declared.Checked.the-variants.{Passed, Refused}
@@ -18,7 +18,7 @@ use Rattle.theory.specs.Formula.{Clause, Formula, clauses, push, Within}
 use Rattle.theory.specs.Table.{closes, zeros, nonzeros, endsOpen, unknownFrom, check, Accepted, WithinLimits}
 
 -- a check that passes passed its first test, and the rest
-past : (b : Bool) (r : Refusal) (s : Checked) → cond b (Refused r) s ≡ Passed → (b ≡ false) × (s ≡ Passed)
+pub past : (b : Bool) (r : Refusal) (s : Checked) → cond b (Refused r) s ≡ Passed → (b ≡ false) × (s ≡ Passed)
 past true r s e = absurd (let z : _≡_ {A = ℕ} 0 1 = cc in omega arith)
 past false r s e = (refl, e)
 
@@ -152,3 +152,35 @@ accepted-within n t e = record { low = λ c l mc ml. range c l mc ml .0; high = 
   where
     range : InRange n (clauses t)
     range = clauses-range n t (accepted-sizes n t e .known)
+
+-- a table after a table ----------------------------------------------------------------------------------------------
+
+-- after an entry that is closed there is a group
+first-clause : (t : List ℤ) → endsOpen true t ≡ false → (c : Clause) × (f : Formula) × (clauses t ≡ c ∷ f)
+unfolding endsOpen clauses
+first-clause [] h = absurd (true-not-false refl h)
+first-clause (posℤ zero ∷ t) h = ([], clauses t, refl)
+first-clause (posℤ (suc p) ∷ t) h = let w = first-clause t (rw (eqb·suc-zero p) at h) in (pos (suc p) ∷ w .0, w .1, ap (push (pos (suc p))) (w .2))
+first-clause (negsuc p ∷ t) h = let w = first-clause t (rw (eqb·suc-zero p) at h) in (neg (suc p) ∷ w .0, w .1, ap (push (neg (suc p))) (w .2))
+
+pub clauses-append : (b : Bool) (t u : List ℤ) → endsOpen b t ≡ false → clauses (t ++ u) ≡ clauses t ++ clauses u
+unfolding endsOpen clauses
+clauses-append b [] u h = refl
+clauses-append b (posℤ zero ∷ t) u h = ap (_∷_ []) (clauses-append false t u h)
+clauses-append b (posℤ (suc p) ∷ t) u h = let k = rw (eqb·suc-zero p) at h in rw (clauses-append true t u k, first-clause t k .2)
+clauses-append b (negsuc p ∷ t) u h = let k = rw (eqb·suc-zero p) at h in rw (clauses-append true t u k, first-clause t k .2)
+
+-- entries and a closing 0
+pub clauses-one : (g : List ℤ) → ((e : ℤ) → List·Memᴰ e g → 0 < natAbs e) → clauses (g ++ (posℤ 0 ∷ [])) ≡ map literalOf g ∷ []
+unfolding clauses
+clauses-one [] h = refl
+clauses-one (posℤ zero ∷ g) h = absurd (omega (arith, h (posℤ 0) (List·Memᴰ·head refl)))
+clauses-one (posℤ (suc p) ∷ g) h = rw (clauses-one g (λ e m. h e (List·Memᴰ·tail m)))
+clauses-one (negsuc p ∷ g) h = rw (clauses-one g (λ e m. h e (List·Memᴰ·tail m)))
+
+pub no-zeros : (g : List ℤ) → ((e : ℤ) → List·Memᴰ e g → 0 < natAbs e) → zeros g ≡ 0
+unfolding zeros
+no-zeros [] h = refl
+no-zeros (e ∷ g) h =
+    let z : natAbs e ≢ 0 = λ q. omega (arith, h e (List·Memᴰ·head refl)) in
+    rw (ne-eqb (natAbs e) 0 z, no-zeros g (λ x m. h x (List·Memᴰ·tail m)))
