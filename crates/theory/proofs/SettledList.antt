@@ -9,7 +9,9 @@ use borrow.Author.Tests.{lt-ltb, le-ltb, ne-eqb}
 use lib.IntN.{ℤ, pos as posℤ}
 use lib.ListN.{getD, drop, List·getD-append}
 use Rattle.general.specs.Lists.{upTo, length-from, getD-from}
-use Rattle.literal.specs.Literal.{Literal, pos, neg, var, maxVariables}
+use Rattle.literal.specs.declared.Literal.{Literal}
+use Rattle.literal.specs.declared.Literal.the-variants.{Pos, Neg}
+use Rattle.literal.specs.Literal.{var, maxVariables}
 use Rattle.theory.specs.Formula.{Formula, Choice, assignment, Solution, Within}
 use Rattle.theory.specs.State.{State, initial, WellFormed}
 use Rattle.theory.specs.Propagation.{dead, rest, settle}
@@ -22,10 +24,10 @@ use Rattle.theory.proofs.Splits.{settle-ends}
 use Rattle.theory.proofs.States.{well-based, opens-bound}
 
 told-entry : (x : Literal) → var x ≤ maxVariables → told (stateEntry x) ≡ x
-told-entry (pos zero) h = refl
-told-entry (neg zero) h = refl
-told-entry (pos (suc r)) h = rw (ne-eqb (suc r) decided (λ e. omega arith))
-told-entry (neg (suc r)) h = rw (ne-eqb (suc r) decided (λ e. omega arith))
+told-entry (Pos zero) h = refl
+told-entry (Neg zero) h = refl
+told-entry (Pos (suc r)) h = rw (ne-eqb (suc r) decided (λ e. omega arith))
+told-entry (Neg (suc r)) h = rw (ne-eqb (suc r) decided (λ e. omega arith))
 
 module _ {n : ℕ} {s : State} (few : n ≤ maxVariables) (w : WellFormed n s) (l : List ℤ) where
   abbrev entry : ℕ → ℤ

@@ -10,7 +10,9 @@ use lib.IntN.{ℤ, negsuc, natAbs, pos as posℤ}
 use lib.ListN.{length}
 use borrow.Author.Tests.{ltb-false, le-ltb, eqb-true, eqb-false, ne-eqb, not-false}
 use Rattle.general.specs.Booleans.{true-not-false, bit-not}
-use Rattle.literal.specs.Literal.{Literal, pos, neg, var, literalOf, maxVariables, maxClauses, maxLiterals}
+use Rattle.literal.specs.declared.Literal.{Literal}
+use Rattle.literal.specs.declared.Literal.the-variants.{Pos, Neg}
+use Rattle.literal.specs.Literal.{var, literalOf, maxVariables, maxClauses, maxLiterals}
 use Rattle.receipt.specs.declared.Checked.{Checked}
 use Rattle.receipt.specs.declared.Refusal.{Refusal}
 use Rattle.receipt.specs.declared.Checked.the-variants.{Passed, Refused}
@@ -143,9 +145,9 @@ clauses-range n (posℤ zero ∷ t) h c l mc ml = ⊎-elim
     (λ k. clauses-range n t (λ e m. h e (List·Memᴰ·tail m)) c l k ml)
     (List·Memᴰ·cases-cons mc)
 clauses-range n (posℤ (suc p) ∷ t) h c l mc ml =
-    push-range n (pos (suc p)) (omega arith) (h (posℤ (suc p)) (List·Memᴰ·head refl)) (clauses t) (clauses-range n t (λ e m. h e (List·Memᴰ·tail m))) c l mc ml
+    push-range n (Pos (suc p)) (omega arith) (h (posℤ (suc p)) (List·Memᴰ·head refl)) (clauses t) (clauses-range n t (λ e m. h e (List·Memᴰ·tail m))) c l mc ml
 clauses-range n (negsuc p ∷ t) h c l mc ml =
-    push-range n (neg (suc p)) (omega arith) (h (negsuc p) (List·Memᴰ·head refl)) (clauses t) (clauses-range n t (λ e m. h e (List·Memᴰ·tail m))) c l mc ml
+    push-range n (Neg (suc p)) (omega arith) (h (negsuc p) (List·Memᴰ·head refl)) (clauses t) (clauses-range n t (λ e m. h e (List·Memᴰ·tail m))) c l mc ml
 
 pub accepted-within : (n : ℕ) (t : List ℤ) → Accepted n t → Within n (clauses t)
 accepted-within n t e = record { low = λ c l mc ml. range c l mc ml .0; high = λ c l mc ml. range c l mc ml .1 }
@@ -160,8 +162,8 @@ first-clause : (t : List ℤ) → endsOpen true t ≡ false → (c : Clause) × 
 unfolding endsOpen clauses
 first-clause [] h = absurd (true-not-false refl h)
 first-clause (posℤ zero ∷ t) h = ([], clauses t, refl)
-first-clause (posℤ (suc p) ∷ t) h = let w = first-clause t (rw (eqb·suc-zero p) at h) in (pos (suc p) ∷ w .0, w .1, ap (push (pos (suc p))) (w .2))
-first-clause (negsuc p ∷ t) h = let w = first-clause t (rw (eqb·suc-zero p) at h) in (neg (suc p) ∷ w .0, w .1, ap (push (neg (suc p))) (w .2))
+first-clause (posℤ (suc p) ∷ t) h = let w = first-clause t (rw (eqb·suc-zero p) at h) in (Pos (suc p) ∷ w .0, w .1, ap (push (Pos (suc p))) (w .2))
+first-clause (negsuc p ∷ t) h = let w = first-clause t (rw (eqb·suc-zero p) at h) in (Neg (suc p) ∷ w .0, w .1, ap (push (Neg (suc p))) (w .2))
 
 pub clauses-append : (b : Bool) (t u : List ℤ) → endsOpen b t ≡ false → clauses (t ++ u) ≡ clauses t ++ clauses u
 unfolding endsOpen clauses
