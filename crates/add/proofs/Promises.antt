@@ -9,7 +9,8 @@ use lib.IntN.{ℤ, natAbs, pos as posℤ}
 use lib.ListN.{length, take, drop, length-append}
 use lib.Seq.{length-take-le, take-at, drop-at}
 use Rattle.literal.specs.Literal.{literalOf}
-use Rattle.receipt.specs.Receipt.{receipt, addingReceipt, addedLength}
+use Rattle.receipt.specs.Receipt.{receipt}
+use Rattle.receipt.specs.Answers.{addingReceipt, addedLength}
 use Rattle.receipt.specs.declared.Adding.{Adding}
 use Rattle.receipt.specs.declared.Adding.the-variants as adding
 use Rattle.receipt.specs.declared.Checked.{Checked}

@@ -14,13 +14,14 @@ use lib.IntN.{ℤ, pos, natAbs}
 use lib.ListN.{length, getD, take, drop, drop-of-length-le}
 use lib.Seq.{drop-cons}
 use Rattle.literal.specs.Literal.{maxClauses, maxLiterals}
+use Rattle.receipt.specs.Receipt.{refusal}
 use Rattle.receipt.specs.declared.Adding.the-variants.{Added}
 use Rattle.receipt.specs.declared.Fault.{Fault}
 use Rattle.receipt.specs.declared.Fault.the-variants.{TooManyClauses, TooManyLiterals, UnknownVariable, UsedLengthWrong, TableShort}
 use Rattle.receipt.specs.declared.Checked.{Checked}
 use Rattle.receipt.specs.declared.Checked.the-variants.{Passed, Refused}
 use Rattle.theory.specs.Table.{zeros, nonzeros, refused, check}
-use Rattle.theory.specs.Calls.{AddCall, short, addRefused, unknownIn, added, addKnown, addChecked, addCall}
+use Rattle.theory.specs.Calls.{AddCall, addRefused, unknownIn, added, addKnown, addChecked, addCall}
 use Rattle.theory.proofs.Tables.{past, known-variable, accepted-exactly}
 use Rattle.add.specs.Addable.{Addable}
 use Rattle.add.specs.Add.{known, firstRefusal, atMost, checkAdded, called}
@@ -58,10 +59,10 @@ module _ (b : List ℤ) where
   first-then (Refused r) d a = refl
   first-then Passed d a = refl
 
-  limit-then : (k m : ℕ) (why : Fault) (a : AddCall) → unlessRefused b (atMost k m why) a ≡ cond (ltb m k) (addRefused (short why) b) a
+  limit-then : (k m : ℕ) (why : Fault) (a : AddCall) → unlessRefused b (atMost k m why) a ≡ cond (ltb m k) (addRefused (refusal why 0) b) a
   limit-then k m why a = go (ltb m k)
     where
-      go : (t : Bool) → unlessRefused b (cond t (refused why 0) Passed) a ≡ cond t (addRefused (short why) b) a
+      go : (t : Bool) → unlessRefused b (cond t (refused why 0) Passed) a ≡ cond t (addRefused (refusal why 0) b) a
       go true = refl
       go false = refl
 

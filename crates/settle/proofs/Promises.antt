@@ -11,7 +11,8 @@ use lib.ListN.{length, take, drop, replicate, length-replicate}
 use lib.Seq.{take-at, drop-at}
 use Rattle.general.specs.Booleans.{cond-ind}
 use Rattle.general.specs.Lists.{upTo, length-from}
-use Rattle.receipt.specs.Receipt.{receipt, settlingReceipt}
+use Rattle.receipt.specs.Receipt.{receipt}
+use Rattle.receipt.specs.Answers.{settlingReceipt}
 use Rattle.receipt.specs.declared.Checked.{Checked}
 use Rattle.receipt.specs.declared.Checked.the-variants.{Passed, Refused}
 use Rattle.receipt.specs.declared.Refusal.{Refusal}
