@@ -10,7 +10,7 @@ use borrow.Author.Tests.{le-leb, lt-leb}
 use Rattle.literal.specs.declared.Literal.{Literal}
 use Rattle.literal.specs.declared.Literal.the-variants.{Pos, Neg}
 use Rattle.receipt.specs.declared.Outcome.the-variants.{LaidOut, NoLayout, Stopped}
-use Rattle.theory.specs.Tree.{Found, Run, run, through, split, Result, result, finished, limited}
+use Rattle.theory.specs.Tree.{Found, Run, run, through, split, Result, result, finished, finish, stop, limited}
 
 finished-not-stopped : {A : Type 0} (l : List (Found A)) → ¬ (finished l ≡ Stopped)
 finished-not-stopped [] e = let z : _≡_ {A = ℕ} 0 1 = cc in omega arith
@@ -21,11 +21,11 @@ finished-none [] e = refl
 finished-none (a ∷ l) e = absurd (let z : _≡_ {A = ℕ} 0 1 = cc in omega arith)
 
 module _ {A : Type 0} (b : ℕ) (r : Run A) where
-  pub limited-enough : r .splits ≤ b → limited b r ≡ result (finished (r .found)) (r .splits) (r .found)
+  pub limited-enough : r .splits ≤ b → limited b r ≡ finish r
   unfolding limited
   limited-enough p = rw (le-leb (r .splits) b p)
 
-  pub limited-short : b < r .splits → limited b r ≡ result Stopped b []
+  pub limited-short : b < r .splits → limited b r ≡ stop b
   unfolding limited
   limited-short p = rw (lt-leb (r .splits) b p)
 
@@ -46,7 +46,7 @@ module _ {A : Type 0} (b : ℕ) (r : Run A) where
     | no p ↦ let e = ap (λ t. t .count) (limited-short (omega arith)) in omega arith
   ]
 
-  pub limited-finished : ¬ (limited b r .outcome ≡ Stopped) → limited b r ≡ result (finished (r .found)) (r .splits) (r .found)
+  pub limited-finished : ¬ (limited b r .outcome ≡ Stopped) → limited b r ≡ finish r
   limited-finished h = elim (decLe (r .splits) b) [ yes p ↦ limited-enough p | no p ↦ absurd (h (stopped-iff .1 (omega arith))) ]
 
   -- what holds of nothing and of what the run finds
@@ -77,7 +77,7 @@ limited-past k x b r = elim (decLe (r .splits) b) [
 ]
 
 module _ {A : Type 0} (p : ℕ) (l r : Run A) where
-  pub split-none : limited 0 (split p l r) ≡ result Stopped 0 []
+  pub split-none : limited 0 (split p l r) ≡ stop 0
   split-none = limited-short 0 (split p l r) (omega arith)
 
   module _ (b : ℕ) where

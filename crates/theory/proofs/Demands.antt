@@ -15,7 +15,7 @@ use Rattle.receipt.specs.declared.Outcome.the-variants.{LaidOut, NoLayout, Stop
 use Rattle.theory.specs.Search.{decided, decide, treeOf, needs, search}
 use Rattle.theory.specs.State.{State, initial, opens, WellFormed}
 use Rattle.theory.specs.Table.{Accepted}
-use Rattle.theory.specs.Tree.{Found, tree, result, finished}
+use Rattle.theory.specs.Tree.{Found, tree, finished, finish}
 use Rattle.theory.proofs.Agreement.{Extends}
 use Rattle.theory.proofs.Branching.{splitOn-means}
 use Rattle.theory.proofs.Budget.{stopped-iff, count-min, larger-budget, limited-finished}
@@ -76,7 +76,7 @@ module _ (n : ℕ) (t : List ℤ) (accepted : Accepted n t) where
   solved : IsFirst (Solution n (clauses t)) (choiceFound found)
   solved = tree-first-solution (accepted-within n t accepted)
 
-  search-finished : (b : ℕ) → ¬ (search n t b .outcome ≡ Stopped) → search n t b ≡ result (finished found) (needs n t) found
+  search-finished : (b : ℕ) → ¬ (search n t b .outcome ≡ Stopped) → search n t b ≡ finish (treeOf n (clauses t))
   unfolding search
   search-finished b = limited-finished b (treeOf n (clauses t))
 

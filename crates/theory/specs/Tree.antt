@@ -67,6 +67,13 @@ module _ {A : Type 0} where
   finished [] = NoLayout
   finished (a ∷ l) = LaidOut
 
-  -- "A search is stopped when a split is needed and the allowance is used up"; "A stop's count is the allowance"
+  abbrev pub finish : Run A → Result A
+  finish r = result (finished (r .found)) (r .splits) (r .found)
+
+  -- "A stop's count is the allowance"
+  abbrev pub stop : ℕ → Result A
+  stop b = result Stopped b []
+
+  -- "A search is stopped when a split is needed and the allowance is used up"
   unfoldable pub limited : ℕ → Run A → Result A
-  limited b r = cond (leb (r .splits) b) (result (finished (r .found)) (r .splits) (r .found)) (result Stopped b [])
+  limited b r = cond (leb (r .splits) b) (finish r) (stop b)
