@@ -5,6 +5,5 @@ pub mod Sound
 pub mod Accepted
 pub mod Stores
 pub mod Reached
-pub mod Prefix
 pub mod Decodings
 pub mod Places
