@@ -2,15 +2,16 @@
 use mathlib.Core.Path.{_≡_, refl, ap, sym, _∙_}
 use mathlib.Core.Logic.{_↔_}
 use mathlib.Core.List.{List, [], _∷_, append-nil}
-use Prim.Native.Nat.{ℕ, _+_, _-_, _≤_, _<_, min}
+use Prim.Native.Nat.{ℕ, suc, _+_, _-_, _≤_, _<_, min}
 use native.Mathlib.Nat.{add-zero}
 use native.Mathlib.Omega.{arith}
 use native.Mathlib.Decide.{decLe, decLt}
 use borrow.Author.Tests.{le-leb, lt-leb}
+use lib.ListN.{length}
 use Rattle.literal.specs.declared.Literal.{Literal}
 use Rattle.literal.specs.declared.Literal.the-variants.{Pos, Neg}
 use Rattle.receipt.specs.declared.Outcome.the-variants.{LaidOut, NoLayout, Stopped}
-use Rattle.theory.specs.Tree.{Found, Run, run, through, split, Result, result, finished, finish, stop, limited}
+use Rattle.theory.specs.Tree.{branch, Found, Run, run, through, tried, visit, Result, result, finished, finish, stop, limited}
 
 finished-not-stopped : {A : Type 0} (l : List (Found A)) → ¬ (finished l ≡ Stopped)
 finished-not-stopped [] e = let z : _≡_ {A = ℕ} 0 1 = cc in omega arith
@@ -76,25 +77,35 @@ limited-past k x b r = elim (decLe (r .splits) b) [
   | no h ↦ rw (limited-short b r (omega arith)) (limited-short (k + b) (run (through x (r .found)) (k + r .splits)) (omega arith))
 ]
 
-module _ {A : Type 0} (p : ℕ) (l r : Run A) where
-  pub split-none : limited 0 (split p l r) ≡ stop 0
-  split-none = limited-short 0 (split p l r) (omega arith)
+module _ {S A : Type 0} (walk : ℕ → S → Run A) (p : ℕ) (l r : S) where
+  abbrev first : Run A
+  first = walk 1 l
+
+  abbrev whole : Run A
+  whole = visit walk 1 (branch p l r)
+
+  pub split-none : limited 0 whole ≡ stop 0
+  split-none = limited-short 0 whole (omega arith)
 
   module _ (b : ℕ) where
-    -- the first side is stopped, or has a layout and the second side is not tried
-    pub split-first : ¬ (limited b l .outcome ≡ NoLayout) → (¬ (l .found ≡ []) → r ≡ run [] 0) → limited (1 + b) (split p l r) ≡ past 1 (Neg p) (limited b l)
-    split-first other untried = elim (decLe (l .splits) b) [
+    -- the first side is stopped or has a layout, and the second side is not tried
+    pub split-first : ¬ (limited b first .outcome ≡ NoLayout) → limited (1 + b) whole ≡ past 1 (Neg p) (limited b first)
+    split-first other = elim (decLe (first .splits) b) [
       | yes h ↦
-          let e = untried (λ e. other (ap (λ t. t .outcome) (limited-enough b l h) ∙ ap finished e)) in
-          rw (e, append-nil (through (Neg p) (l .found)), add-zero (1 + l .splits)) (limited-past 1 (Neg p) b l)
-      | no h ↦ rw (limited-short b l (omega arith)) (limited-short (1 + b) (split p l r) (omega arith))
+          let e = untried (first .found) (λ e. other (ap (λ t. t .outcome) (limited-enough b first h) ∙ ap finished e)) in
+          rw (e, append-nil (through (Neg p) (first .found)), add-zero (1 + first .splits)) (limited-past 1 (Neg p) b first)
+      | no h ↦ rw (limited-short b first (omega arith)) (limited-short (1 + b) whole (omega arith))
     ]
+      where
+        untried : (x : List (Found A)) → ¬ (x ≡ []) → tried walk (1 - length x) r ≡ run [] 0
+        untried [] h = absurd (h refl)
+        untried (a ∷ x) h = let e : 1 - suc (length x) ≡ 0 = omega arith in rw e
 
     -- the first side has no layout
-    pub split-second : limited b l .outcome ≡ NoLayout →
-        limited (1 + b) (split p l r) ≡ past (1 + limited b l .count) (Pos p) (limited (b - limited b l .count) r)
+    pub split-second : limited b first .outcome ≡ NoLayout →
+        limited (1 + b) whole ≡ past (1 + limited b first .count) (Pos p) (limited (b - limited b first .count) (walk 1 r))
     split-second e =
-        let f = limited-finished b l (λ s. let z : _≡_ {A = ℕ} 0 1 = cc in omega arith) in
-        let c : limited b l .count ≡ l .splits = ap (λ t. t .count) f in
-        let all : 1 + b ≡ 1 + l .splits + (b - l .splits) = omega (arith, count-min b l) in
-        rw (c, finished-none (l .found) (sym (ap (λ t. t .outcome) f) ∙ e), all) (limited-past (1 + l .splits) (Pos p) (b - l .splits) r)
+        let f = limited-finished b first (λ s. let z : _≡_ {A = ℕ} 0 1 = cc in omega arith) in
+        let c : limited b first .count ≡ first .splits = ap (λ t. t .count) f in
+        let all : 1 + b ≡ 1 + first .splits + (b - first .splits) = omega (arith, count-min b first) in
+        rw (c, finished-none (first .found) (sym (ap (λ t. t .outcome) f) ∙ e), all) (limited-past (1 + first .splits) (Pos p) (b - first .splits) (walk 1 r))

@@ -12,10 +12,10 @@ use Rattle.theory.specs.Formula.{Formula, Choice, assignment, clauses, S
 use Rattle.theory.specs.Order.{_≼_, Least, IsLeast, IsFirst}
 use Rattle.theory.specs.Propagation.{Settled, dead, rest, settle}
 use Rattle.receipt.specs.declared.Outcome.the-variants.{LaidOut, NoLayout, Stopped}
-use Rattle.theory.specs.Search.{decided, decide, treeOf, needs, search}
+use Rattle.theory.specs.Search.{decided, decide, treeFrom, treeOf, needs, search}
 use Rattle.theory.specs.State.{State, initial, opens, WellFormed}
 use Rattle.theory.specs.Table.{Accepted}
-use Rattle.theory.specs.Tree.{Found, tree, finished, finish}
+use Rattle.theory.specs.Tree.{Found, visit, tree, finished, finish}
 use Rattle.theory.proofs.Agreement.{Extends}
 use Rattle.theory.proofs.Branching.{splitOn-means}
 use Rattle.theory.proofs.Budget.{stopped-iff, count-min, larger-budget, limited-finished}
@@ -62,10 +62,14 @@ module _ {n : ℕ} {f : Formula} (within : Within n f) where
       go (some c) h = record { member = h .member .solves; least = λ d k. h .least d (agrees d k) }
 
   -- the fuel of the tree is only a way to define it
-  pub tree-enough-fuel : (k j : ℕ) → n < k → n < j → tree (decide n f) k 1 initial ≡ tree (decide n f) j 1 initial
-  tree-enough-fuel k j p q =
-      tree-fuel (WellFormed n) (λ u. opens u n) (Extends n f) _≼_ (decide n f) decide-means k j 1 initial (initial-well n)
-      (omega (arith, opens-bound initial n)) (omega (arith, opens-bound initial n))
+  pub tree-enough-fuel : (s : State) → WellFormed n s → (k j : ℕ) → n < k → n < j → tree (decide n f) k 1 s ≡ tree (decide n f) j 1 s
+  tree-enough-fuel s w k j p q =
+      tree-fuel (WellFormed n) (λ u. opens u n) (Extends n f) _≼_ (decide n f) decide-means k j 1 s w (omega (arith, opens-bound s n)) (omega (arith, opens-bound s n))
+
+  -- so the tree from a state is what is decided of it, and the trees from its sides
+  pub tree-step : (s : State) → WellFormed n s → treeFrom n f s ≡ visit (tree (decide n f) (suc n)) 1 (decide n f s)
+  unfolding tree
+  tree-step s w = tree-enough-fuel s w (suc n) (suc (suc n)) (omega arith) (omega arith)
 
 -- demands 2 and 3, of the search of an accepted table with an allowance of b ----------------------------------------
 

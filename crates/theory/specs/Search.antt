@@ -56,9 +56,13 @@ decided n f (rest s) = splitOn n s (branchVariable f s)
 unfoldable pub decide : ℕ → Formula → State → Decision State Choice
 decide n f s = decided n f (settle n f s)
 
--- the tree of a filing, walked to the first layout: each split closes one of n open variables, so fuel n + 1 is enough
+-- the tree from a state, walked to the first layout: each split closes one of n open variables, so fuel n + 1 is enough
+abbrev pub treeFrom : ℕ → Formula → State → Run Choice
+treeFrom n f s = tree (decide n f) (suc n) 1 s
+
+-- the tree of a filing
 unfoldable pub treeOf : ℕ → Formula → Run Choice
-treeOf n f = tree (decide n f) (suc n) 1 initial
+treeOf n f = treeFrom n f initial
 
 -- what the tree of a table needs: "the number of splits met in this order up to that end, as if no allowance were set"
 abbrev pub needs : ℕ → List ℤ → ℕ
