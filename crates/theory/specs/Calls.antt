@@ -22,14 +22,13 @@ use Rattle.receipt.specs.declared.Adding.the-variants as adding
 use Rattle.receipt.specs.declared.Reading.{Reading}
 use Rattle.receipt.specs.declared.Reading.the-variants as reading
 use Rattle.receipt.specs.declared.Receipt.{Receipt}
-use Rattle.receipt.specs.declared.Outcome.the-variants as outcome
 use Rattle.receipt.specs.Receipt.{refusal, refusedReceipt}
 use Rattle.receipt.specs.Answers.{searchingReceipt}
 use Rattle.theory.specs.Formula.{Choice, clauses}
 use Rattle.theory.specs.State.{State, initial}
 use Rattle.theory.specs.Table.{zeros, nonzeros, refused, check}
 use Rattle.theory.specs.Propagation.{Settled, dead, rest, settle}
-use Rattle.theory.specs.Tree.{Outcome, laidOut, noLayout, stopped, Result}
+use Rattle.theory.specs.Tree.{Result}
 use Rattle.theory.specs.Search.{search, planOf, trailOf}
 use Rattle.theory.specs.Strip.{Read, goes, stops, readStrip}
 use Rattle.theory.specs.Strip as strip
@@ -72,14 +71,12 @@ pub record SearchCall : Type 0 where
   pub plan : List ℕ
   pub trail : List ℤ
 
-abbrev pub searchAnswer : ℕ → Outcome Choice → Searching
-searchAnswer k (laidOut a) = searching.Ended outcome.LaidOut k
-searchAnswer k noLayout = searching.Ended outcome.NoLayout k
-searchAnswer k stopped = searching.Ended outcome.Stopped k
+abbrev pub searchAnswer : Result Choice → Searching
+searchAnswer r = searching.Ended (r .outcome) (r .count)
 
 abbrev pub searchedCall : ℕ → Result Choice → List ℕ → List ℤ → SearchCall
 searchedCall n r plan trail =
-    record { answer = searchAnswer (r .count) (r .outcome); plan = over n (planOf n (r .outcome)) plan; trail = over n (trailOf n (r .outcome)) trail }
+    record { answer = searchAnswer r; plan = over n (planOf n (r .found)) plan; trail = over n (trailOf n (r .found)) trail }
 
 abbrev pub searchRefused : Refusal → List ℕ → List ℤ → SearchCall
 searchRefused r plan trail = record { answer = searching.Refused r; plan = plan; trail = trail }
@@ -163,7 +160,7 @@ abbrev pub ran : Receipt → List ℕ → Run
 ran r plan = record { receipt = r; plan = plan }
 
 abbrev pub searchedRun : ℕ → Result Choice → List ℕ → Run
-searchedRun n r plan = ran (searchingReceipt (searchAnswer (r .count) (r .outcome))) (over n (planOf n (r .outcome)) plan)
+searchedRun n r plan = ran (searchingReceipt (searchAnswer r)) (over n (planOf n (r .found)) plan)
 
 -- "strip refusals except 23, then 6"; "It searches what was read, without a trail"
 abbrev pub runOf : strip.Reading → ℕ → List ℕ → Run
