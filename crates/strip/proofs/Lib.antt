@@ -1,0 +1,5 @@
+pub mod Commands
+pub mod Sound
+pub mod Ends
+pub mod Encoded
+pub mod Reached

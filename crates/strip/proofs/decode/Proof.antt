@@ -1,0 +1,155 @@
+-- `decode` meets its contract, by the laws of Reached.
+use mathlib.Core.Path.{_≡_, sym, ap, _∙_}
+use Prim.Native.Nat.{_<_, _-_}
+use borrow.Author.Needs.{needs}
+use borrow.Author.Tests.{lt-ltb, not-true, not-false}
+use native.Mathlib.Omega.{arith}
+use lib.IntN.{pos}
+use lib.ListN.{length, length-replicate}
+use mir.Syntax.{w16}
+use mir.ValLaws.{toZ-ofZ}
+use Rattle.literal.specs.Literal.{maxTable}
+use Rattle.theory.specs.declared.Command.the-variants as command
+use Rattle.theory.specs.declared.Stored.the-variants as stored
+use Rattle.theory.specs.declared.Obeyed.the-variants as obeyed
+use Rattle.theory.specs.Strip.{commandAt, obey, notRead, readStrip}
+use Rattle.strip.proofs.Reached.{Reached, begun, cut, whole, no-command, further, not-obeyed, kept, no-room, has-cell, stored}
+use Rattle.strip.proofs.decode.Statement.{statement}
+use Rattle.strip.proofs.decode.Tie as tie
+
+abbrev Inv-loop : tie.InvT-loop
+Inv-loop strip room cells₀ used₀ progress₀ at₀ cells used progress at = Reached strip room at used progress cells
+
+abbrev μ-loop : tie.MeasureT-loop
+μ-loop strip room cells₀ used₀ progress₀ at₀ cells used progress at = length strip - at
+
+returns : tie.Need-returns Inv-loop μ-loop
+unfolding readStrip
+returns c = c .refused .ensures ∙ rw (c .before .new .ensures, lt-ltb _ _ (c .before .before .if1 .taken))
+
+-- a refusal in place of a command
+returns-2 : tie.Need-returns-2 Inv-loop μ-loop
+returns-2 c =
+    let k = c .before .before .enum-told .given .1 in
+    let f = c .before .before .before .before in
+    c .refused2 .ensures ∙ ap notRead (c .before .refusal-of .ensures _ k) ∙ no-command (f .before .before .loop .inv) (f .before .loop-test .taken) _ (sym k ∙ f .command-at .ensures)
+
+-- a command
+commanded : (c : tie.After-found Inv-loop μ-loop) →
+    let l = c .before .before .before .before in
+    let m = c .found .given .0 in
+    command.Command (m .0) (m .1 .0) (m .1 .1 .0) ≡ commandAt (l .before .before .before .args .strip .now) (l .loop .at) (l .loop .progress .turn)
+commanded c = sym (c .found .given .1) ∙ c .before .before .command-at .ensures
+
+-- that is not obeyed
+returns-3 : tie.Need-returns-3 Inv-loop μ-loop
+returns-3 c =
+    let w = c .before .before .before in
+    let f = w .before .before .before .before in
+    let r = f .before .before .before in
+    c .refused3 .ensures ∙ ap notRead (c .before .new2 .ensures)
+    ∙ not-obeyed (r .before .loop .inv) (r .loop-test .taken) (commanded f) _ (sym (w .fault .given .1) ∙ w .before .before .obey .ensures)
+
+-- or that is, and stores an element
+storing : (c : tie.After-stored Inv-loop μ-loop) →
+    let g = c .before .before .before in
+    let f = g .before .before .before .before in
+    let m = f .found .given .0 in
+    obeyed.Goes (g .further .given .0 .0) (stored.Element (c .stored .given .0 .0)) ≡ obey (f .before .before .before .before .loop .progress) (m .1 .0) (m .0)
+storing c =
+    let g = c .before .before .before in
+    ap (obeyed.Goes (g .further .given .0 .0)) (sym (c .stored .given .1)) ∙ sym (g .further .given .1) ∙ g .before .before .obey .ensures
+
+returns-4 : tie.Need-returns-4 Inv-loop μ-loop
+returns-4 c =
+    let k = c .before .before .before .before in
+    let f = k .before .before .before .before .before .before .before in
+    let r = f .before .before .before in
+    c .refused4 .ensures ∙ ap notRead (c .before .new3 .ensures)
+    ∙ no-room (r .before .loop .inv) (r .loop-test .taken) (commanded f) (storing k) (c .before .before .if2 .taken)
+
+array-set-from-cells : tie.Need-array-set-from-cells Inv-loop μ-loop
+array-set-from-cells c =
+    let k = c .before .before in
+    let f = k .before .before .before .before .before .before .before in
+    let r = f .before .before .before in
+    has-cell (r .before .loop .inv) (r .loop-test .taken) (commanded f) (storing k)
+
+loop-again : tie.Need-loop-again Inv-loop μ-loop
+loop-again c =
+    let k = c .before .before in
+    let f = k .before .before .before .before .before .before .before in
+    let r = f .before .before .before in
+    rw (toZ-ofZ w16 (k .stored .given .0 .0) (record { sfits = c .before .known-told4 .given .0 .1 }))
+    (stored (r .before .loop .inv) (r .loop-test .taken) (commanded f) (storing k) (c .if2 .left))
+
+-- or nothing
+loop-again-2 : tie.Need-loop-again-2 Inv-loop μ-loop
+loop-again-2 c =
+    let g = c .before .before .before in
+    let f = g .before .before .before .before in
+    let r = f .before .before .before in
+    kept (r .before .loop .inv) (r .loop-test .taken) (commanded f)
+    (ap (obeyed.Goes (g .further .given .0 .0)) (sym (c .enum-told2 .given .1)) ∙ sym (g .further .given .1) ∙ g .before .before .obey .ensures)
+
+less : (c : tie.After-found Inv-loop μ-loop) →
+    let l = c .before .before .before .before in
+    let s = l .before .before .before .args .strip .now in
+    length s - c .found .given .0 .1 .1 .0 < length s - l .loop .at
+less c =
+    let r = c .before .before .before in
+    omega (arith, further (r .before .loop .inv) (r .loop-test .taken) (commanded c), r .loop-test .taken)
+
+-- the end of the strip
+returns-5 : tie.Need-returns-5 Inv-loop μ-loop
+returns-5 c =
+    let k = c .before .before in
+    let l = k .before .before in
+    c .refused5 .ensures ∙ ap notRead (c .before .new4 .ensures)
+    ∙ cut (l .before .loop .inv) (l .loop-test .left) (sym (k .before .same .ensures) ∙ not-true _ (k .if3 .taken))
+
+returns-6 : tie.Need-returns-6 Inv-loop μ-loop
+returns-6 c =
+    let l = c .before .before .before in
+    whole (l .before .loop .inv) (l .loop-test .left) (sym (c .before .before .same .ensures) ∙ not-false _ (c .before .if3 .left))
+
+pub decode-spec : {M : Type 1} → statement M
+decode-spec =
+    tie.close
+    (tie.spec
+    Inv-loop
+    μ-loop
+    (λ c κs. search needs)
+    (λ c κs. search needs)
+    returns
+    (λ c. begun _ _ (c .if1 .left) _ (length-replicate maxTable (pos 0)))
+    (λ c κs. search needs)
+    (λ c. search needs)
+    (λ c. search needs)
+    (λ c κs. search needs)
+    (λ c κs. search needs)
+    returns-2
+    (λ c κs. c .before .before .before .before .before .loop .inv .sound .variables)
+    (λ c. search needs)
+    (λ c κs. search needs)
+    (λ c κs. search needs)
+    returns-3
+    (λ c. search needs)
+    (λ c. search needs)
+    (λ c κs. search needs)
+    (λ c κs. search needs)
+    returns-4
+    (λ c. record { fits = omega (arith, array-set-from-cells c) })
+    array-set-from-cells
+    (λ c. record { fits = omega (arith, array-set-from-cells c) })
+    (λ c. search needs)
+    (λ c. less (c .before .before .before .before .before .before .before .before .before))
+    loop-again
+    (λ c. less (c .before .before .before .before .before .before .before))
+    loop-again-2
+    (λ c κs. search needs)
+    (λ c κs. search needs)
+    (λ c κs. search needs)
+    returns-5
+    (λ c. search needs)
+    returns-6)
