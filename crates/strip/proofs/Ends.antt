@@ -18,6 +18,7 @@ use Rattle.receipt.specs.declared.Refusal.{Refusal}
 use Rattle.receipt.specs.declared.Reading.{Reading}
 use Rattle.receipt.specs.declared.Reading.the-variants.{Read, Refused}
 use Rattle.receipt.specs.Receipt.{numberOf}
+use Rattle.receipt.specs.Answers.{readLength}
 use Rattle.theory.specs.declared.Turn.{Turn}
 use Rattle.theory.specs.declared.Turn.the-variants.{Start, After}
 use Rattle.theory.specs.declared.Command.{Command}
@@ -113,3 +114,11 @@ module _ (s : List ℕ) (room : ℕ) where
   -- "strip refusals except 23"
   pub never-short : (f : Refusal) → maxTable ≤ room → readStrip s room .reading ≡ Refused f → f .fault ≢ TableShort
   never-short f w e q = let a : Answered (Refused f) (readStrip s room .table) = rw e at answered in a .2 w (ap numberOf q)
+
+  -- the used length is the table's, and fits the room
+  pub sized : (readLength (readStrip s room .reading) ≡ length (readStrip s room .table)) × (length (readStrip s room .table) ≤ room)
+  sized = go (readStrip s room .reading) (readStrip s room .table) answered
+    where
+      go : (r : Reading) (T : List ℤ) → Answered r T → (readLength r ≡ length T) × (length T ≤ room)
+      go (Read n u) T a = (a .0, omega (arith, a .0, a .1))
+      go (Refused f) T a = rw (a .0) (refl, omega arith)

@@ -3,3 +3,4 @@ pub mod Sound
 pub mod Ends
 pub mod Encoded
 pub mod Reached
+pub mod Decodings
