@@ -4,3 +4,4 @@ pub mod Ends
 pub mod Encoded
 pub mod Reached
 pub mod Decodings
+pub mod Accepted

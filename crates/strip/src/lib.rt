@@ -1,9 +1,10 @@
 // Reading a strip: its commands one by one, the numbers that they change, and the table that they write.
 ghost use mathlib.Core.Option.{some};
 ghost use mathlib.Core.Path.{_≡_};
-ghost use Prim.Native.Nat.{_+_, _≤_, _<_};
+ghost use Prim.Native.Nat.{_+_, _*_, _≤_, _<_};
 ghost use lib.ListN.{length, take};
 ghost use Rattle.literal.specs.Literal.{maxVariables};
+ghost use Rattle.receipt.specs.Receipt.{refusal};
 ghost use Rattle.theory.specs.declared.Command.the-variants as command;
 ghost use Rattle.theory.specs.declared.Obeyed.the-variants.{Goes};
 ghost use Rattle.theory.specs.Strip.{operandBytes, turnOf, same, operandAt, commandOf, commandAt, progress, entered, obey, notRead, readStrip};
@@ -86,6 +87,12 @@ fn same(turn: Turn, other: Turn) -> bool
 }
 
 // "operands high byte first"
+fn word(high: u8, low: u8) -> u16
+    ensures { λ r. ⌜ r ≡ high * 256 + low ⌝ }
+{
+    high as u16 * 256 + low as u16
+}
+
 fn operand_at(strip: &[u8], at: usize, size: usize) -> u16
     requires { ⌜ at + size < length (now strip) ⌝ }
     ensures { λ r. ⌜ r ≡ operandAt (now (strip .entry)) at size ⌝ }
@@ -93,11 +100,10 @@ fn operand_at(strip: &[u8], at: usize, size: usize) -> u16
     if size == 0 {
         return 0;
     }
-    let first = strip[at + 1] as u16;
     if size == 1 {
-        return first;
+        return word(0, strip[at + 1]);
     }
-    first * 256 + strip[at + 2] as u16
+    word(strip[at + 1], strip[at + 2])
 }
 
 // A mark at an index of the strip: "22, 21".
@@ -214,26 +220,29 @@ pub struct Decoded {
     pub cells: [i16; Literal::MAX_TABLE],
 }
 
-fn refused(why: Refusal) -> Decoded
-    ensures { λ r. ⌜ decodingOf r ≡ notRead why ⌝ }
+fn refused(fault: Fault, place: usize) -> Decoded
+    ensures { λ r. ⌜ decodingOf r ≡ notRead (refusal fault place) ⌝ }
 {
     Decoded {
-        reading: Reading::Refused(why),
+        reading: Reading::Refused(Refusal::new(fault, place)),
         cells: [0i16; Literal::MAX_TABLE],
     }
 }
 
 // "the refusal passed on"; nothing is asked of a command that is none.
-fn refusal_of(found: Command) -> Refusal
-    ensures { λ r. ⌜ ((f : Refusal) → found ≡ command.Refused f → r ≡ f) ⌝ }
+fn passed_on(found: Command) -> Decoded
+    ensures { λ r. ⌜ ((f : Refusal) → found ≡ command.Refused f → decodingOf r ≡ notRead f) ⌝ }
 {
     match found {
-        Command::Refused(why) => why,
+        Command::Refused(why) => {
+            let fault = why.fault;
+            refused(fault, why.place)
+        }
         Command::Command {
             mark: _,
             operand: _,
             next,
-        } => Refusal::new(Fault::CutStrip, next),
+        } => refused(Fault::CutStrip, next),
     }
 }
 
@@ -242,7 +251,7 @@ pub fn decode(strip: &[u8], room: usize) -> Decoded
     ensures { λ r. ⌜ decodingOf r ≡ readStrip (now (strip .entry)) room ⌝ }
 {
     if MAX_STRIP < strip.len() {
-        return refused(Refusal::new(Fault::StripTooLong, 0));
+        return refused(Fault::StripTooLong, 0);
     }
     let mut cells = [0i16; Literal::MAX_TABLE];
     let mut used: usize = 0;
@@ -262,14 +271,14 @@ pub fn decode(strip: &[u8], room: usize) -> Decoded
             next,
         } = found
         else {
-            return refused(refusal_of(found));
+            return passed_on(found);
         };
         match obey(progress, operand, mark) {
-            Obeyed::Refused(fault) => return refused(Refusal::new(fault, at)),
+            Obeyed::Refused(fault) => return refused(fault, at),
             Obeyed::Goes(further, stored) => {
                 if let Stored::Element(element) = stored {
                     if room <= used {
-                        return refused(Refusal::new(Fault::TableShort, at));
+                        return refused(Fault::TableShort, at);
                     }
                     cells[used] = element;
                     used += 1;
@@ -281,7 +290,7 @@ pub fn decode(strip: &[u8], room: usize) -> Decoded
     }
     let turn = progress.turn;
     if !same(turn, Turn::After) {
-        return refused(Refusal::new(Fault::CutStrip, strip.len()));
+        return refused(Fault::CutStrip, strip.len());
     }
     Decoded {
         reading: Reading::Read {

@@ -12,7 +12,7 @@ use Rattle.literal.specs.Literal.{maxTable}
 use Rattle.theory.specs.declared.Command.the-variants as command
 use Rattle.theory.specs.declared.Stored.the-variants as stored
 use Rattle.theory.specs.declared.Obeyed.the-variants as obeyed
-use Rattle.theory.specs.Strip.{commandAt, obey, notRead, readStrip}
+use Rattle.theory.specs.Strip.{commandAt, obey, readStrip}
 use Rattle.strip.proofs.Reached.{Reached, begun, cut, whole, no-command, further, not-obeyed, kept, no-room, has-cell, stored}
 use Rattle.strip.proofs.decode.Statement.{statement}
 use Rattle.strip.proofs.decode.Tie as tie
@@ -25,14 +25,14 @@ abbrev μ-loop : tie.MeasureT-loop
 
 returns : tie.Need-returns Inv-loop μ-loop
 unfolding readStrip
-returns c = c .refused .ensures ∙ rw (c .before .new .ensures, lt-ltb _ _ (c .before .before .if1 .taken))
+returns c = c .refused .ensures ∙ rw (lt-ltb _ _ (c .before .if1 .taken))
 
 -- a refusal in place of a command
 returns-2 : tie.Need-returns-2 Inv-loop μ-loop
 returns-2 c =
-    let k = c .before .before .enum-told .given .1 in
-    let f = c .before .before .before .before in
-    c .refused2 .ensures ∙ ap notRead (c .before .refusal-of .ensures _ k) ∙ no-command (f .before .before .loop .inv) (f .before .loop-test .taken) _ (sym k ∙ f .command-at .ensures)
+    let k = c .before .enum-told .given .1 in
+    let f = c .before .before .before in
+    c .passed-on .ensures _ k ∙ no-command (f .before .before .loop .inv) (f .before .loop-test .taken) _ (sym k ∙ f .command-at .ensures)
 
 -- a command
 commanded : (c : tie.After-found Inv-loop μ-loop) →
@@ -44,10 +44,10 @@ commanded c = sym (c .found .given .1) ∙ c .before .before .command-at .ensure
 -- that is not obeyed
 returns-3 : tie.Need-returns-3 Inv-loop μ-loop
 returns-3 c =
-    let w = c .before .before .before in
+    let w = c .before .before in
     let f = w .before .before .before .before in
     let r = f .before .before .before in
-    c .refused3 .ensures ∙ ap notRead (c .before .new2 .ensures)
+    c .refused2 .ensures
     ∙ not-obeyed (r .before .loop .inv) (r .loop-test .taken) (commanded f) _ (sym (w .fault .given .1) ∙ w .before .before .obey .ensures)
 
 -- or that is, and stores an element
@@ -62,11 +62,10 @@ storing c =
 
 returns-4 : tie.Need-returns-4 Inv-loop μ-loop
 returns-4 c =
-    let k = c .before .before .before .before in
+    let k = c .before .before .before in
     let f = k .before .before .before .before .before .before .before in
     let r = f .before .before .before in
-    c .refused4 .ensures ∙ ap notRead (c .before .new3 .ensures)
-    ∙ no-room (r .before .loop .inv) (r .loop-test .taken) (commanded f) (storing k) (c .before .before .if2 .taken)
+    c .refused3 .ensures ∙ no-room (r .before .loop .inv) (r .loop-test .taken) (commanded f) (storing k) (c .before .if2 .taken)
 
 array-set-from-cells : tie.Need-array-set-from-cells Inv-loop μ-loop
 array-set-from-cells c =
@@ -103,9 +102,9 @@ less c =
 -- the end of the strip
 returns-5 : tie.Need-returns-5 Inv-loop μ-loop
 returns-5 c =
-    let k = c .before .before in
+    let k = c .before in
     let l = k .before .before in
-    c .refused5 .ensures ∙ ap notRead (c .before .new4 .ensures)
+    c .refused4 .ensures
     ∙ cut (l .before .loop .inv) (l .loop-test .left) (sym (k .before .same .ensures) ∙ not-true _ (k .if3 .taken))
 
 returns-6 : tie.Need-returns-6 Inv-loop μ-loop
@@ -120,23 +119,19 @@ decode-spec =
     Inv-loop
     μ-loop
     (λ c κs. search needs)
-    (λ c κs. search needs)
     returns
     (λ c. begun _ _ (c .if1 .left) _ (length-replicate maxTable (pos 0)))
     (λ c κs. search needs)
     (λ c. search needs)
     (λ c. search needs)
     (λ c κs. search needs)
-    (λ c κs. search needs)
     returns-2
     (λ c κs. c .before .before .before .before .before .loop .inv .sound .variables)
     (λ c. search needs)
     (λ c κs. search needs)
-    (λ c κs. search needs)
     returns-3
     (λ c. search needs)
     (λ c. search needs)
-    (λ c κs. search needs)
     (λ c κs. search needs)
     returns-4
     (λ c. record { fits = omega (arith, array-set-from-cells c) })
@@ -147,7 +142,6 @@ decode-spec =
     loop-again
     (λ c. less (c .before .before .before .before .before .before .before))
     loop-again-2
-    (λ c κs. search needs)
     (λ c κs. search needs)
     (λ c κs. search needs)
     returns-5
