@@ -5,3 +5,4 @@ pub mod Encoded
 pub mod Reached
 pub mod Decodings
 pub mod Accepted
+pub mod Promises

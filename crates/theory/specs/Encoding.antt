@@ -1,13 +1,13 @@
 -- A strip by its grammar: the placements, then chapters and groups, then the end; and the table that it stands for.
+use mathlib.Core.Path.{_≡_}
 use mathlib.Core.Bool.{cond}
 use mathlib.Core.List.{List, [], _∷_, _++_, map}
 use Prim.Native.Nat.{ℕ, _+_, _/_, _%_, _≤_, _<_}
 use lib.Dec.{eqb}
 use lib.IntN.{ℤ, pos}
 use lib.ListN.{length, getD}
-use Rattle.literal.specs.declared.Literal.{Literal}
 use Rattle.literal.specs.declared.Literal.the-variants.{Pos, Neg}
-use Rattle.literal.specs.Literal.{var, entryOf, maxVariables, maxClauses, maxLiterals}
+use Rattle.literal.specs.Literal.{entryOf, maxVariables, maxClauses, maxLiterals}
 use Rattle.theory.specs.declared.Mark.{Mark}
 use Rattle.theory.specs.declared.Mark.the-variants.{Placements, Chapter, Opens, Taken, LeftOut, Closes, Ends}
 use Rattle.theory.specs.Formula.{Clause, Formula, Within}
@@ -58,12 +58,18 @@ unfoldable pub entries : Formula → ℕ
 entries [] = 0
 entries (c ∷ f) = length c + entries f
 
--- a formula of n variables is within the limits
-pub record InLimits (n : ℕ) (f : Formula) : Type 0 where
+-- a strip within the limits, of n placements and these chapters and groups
+pub record StripWithin (s : List ℕ) (n : ℕ) (l : List Item) : Type 0 where
+  pub is : s ≡ encode n l
+  -- "over 16,384 bytes" it is too long
+  pub short : length s ≤ maxStrip
+  -- "n is 0 to 256."
   pub variables : n ≤ maxVariables
-  pub clauses : length f ≤ maxClauses
-  pub literals : entries f ≤ maxLiterals
-  pub known : Within n f
+  -- groups: "at most 512"; entries: "at most 2,048"
+  pub clauses : length (groups l) ≤ maxClauses
+  pub literals : entries (groups l) ≤ maxLiterals
+  -- an operand of 54 and 4C is "a placement"
+  pub known : Within n (groups l)
 
 -- a strip is of bytes
 abbrev pub Bytes : List ℕ → Type 0
