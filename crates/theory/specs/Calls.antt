@@ -31,8 +31,7 @@ use Rattle.theory.specs.Table.{zeros, nonzeros, refused, check}
 use Rattle.theory.specs.Propagation.{Settled, dead, rest, settle}
 use Rattle.theory.specs.Tree.{Result}
 use Rattle.theory.specs.Search.{search, planOf, trailOf}
-use Rattle.theory.specs.Strip.{Read, goes, stops, readStrip}
-use Rattle.theory.specs.Strip as strip
+use Rattle.theory.specs.Strip.{Decoding, readStrip}
 
 -- the first n elements of a list, and "Elements not named are never changed"
 abbrev pub over : {A : Type 0} → ℕ → List A → List A → List A
@@ -136,12 +135,8 @@ pub record ReadCall : Type 0 where
   pub table : List ℤ
 
 -- the table is written only where the whole strip passes
-abbrev pub readAnswer : strip.Reading → List ℤ → ReadCall
-readAnswer (stops f) t = record { answer = reading.Refused f; table = t }
-readAnswer (goes r) t = record { answer = reading.Read (r .variables) (length (r .table)); table = over (length (r .table)) (r .table) t }
-
 unfoldable pub readCall : List ℕ → List ℤ → ReadCall
-readCall s t = readAnswer (readStrip s (length t)) t
+readCall s t = let d = readStrip s (length t) in record { answer = d .reading; table = over (length (d .table)) (d .table) t }
 
 -- Window ----------------------------------------------------------------------------------------------------------
 
@@ -164,10 +159,12 @@ abbrev pub searchedRun : ℕ → Result Choice → List ℕ → Run
 searchedRun n r plan = ran (searchingReceipt (searchAnswer r)) (over n (planOf n (r .found)) plan)
 
 -- "strip refusals except 23, then 6"; "It searches what was read, without a trail"
-abbrev pub runOf : strip.Reading → ℕ → List ℕ → Run
-runOf (stops f) b plan = ran (refusedReceipt f) plan
-runOf (goes r) b plan =
-    cond (ltb (length plan) (r .variables)) (ran (refusedReceipt (refusal PlanShort 0)) plan) (searchedRun (r .variables) (search (r .variables) (r .table) b) plan)
+abbrev pub runRead : Reading → List ℤ → ℕ → List ℕ → Run
+runRead (reading.Refused f) t b plan = ran (refusedReceipt f) plan
+runRead (reading.Read n u) t b plan = cond (ltb (length plan) n) (ran (refusedReceipt (refusal PlanShort 0)) plan) (searchedRun n (search n t b) plan)
+
+abbrev pub runOf : Decoding → ℕ → List ℕ → Run
+runOf d b plan = runRead (d .reading) (d .table) b plan
 
 pub record WindowCall : Type 0 where
   pub number : ℕ

@@ -8,6 +8,7 @@ pub mod Tree
 pub mod Bound
 pub mod Search
 pub mod Strip
+pub mod Encoding
 pub mod Calls
 pub mod SettledList
 pub mod Filings
