@@ -22,8 +22,8 @@ use Rattle.receipt.specs.declared.Adding.the-variants as adding
 use Rattle.receipt.specs.declared.Reading.{Reading}
 use Rattle.receipt.specs.declared.Reading.the-variants as reading
 use Rattle.receipt.specs.declared.Receipt.{Receipt}
-use Rattle.receipt.specs.Receipt.{refusal, refusedReceipt}
-use Rattle.receipt.specs.Answers.{searchingReceipt}
+use Rattle.receipt.specs.Receipt.{numberOf, refusal}
+use Rattle.receipt.specs.Answers.{searchingReceipt, readVariables}
 use Rattle.theory.specs.Formula.{Choice, clauses}
 use Rattle.theory.specs.SettledList.{decided}
 use Rattle.theory.specs.State.{State, initial}
@@ -31,7 +31,7 @@ use Rattle.theory.specs.Table.{zeros, nonzeros, refused, check}
 use Rattle.theory.specs.Propagation.{Settled, dead, rest, settle}
 use Rattle.theory.specs.Tree.{Result}
 use Rattle.theory.specs.Search.{search, planOf, trailOf}
-use Rattle.theory.specs.Strip.{Decoding, readStrip}
+use Rattle.theory.specs.Strip.{readStrip}
 
 -- the first n elements of a list, and "Elements not named are never changed"
 abbrev pub over : {A : Type 0} → ℕ → List A → List A → List A
@@ -138,7 +138,25 @@ pub record ReadCall : Type 0 where
 unfoldable pub readCall : List ℕ → List ℤ → ReadCall
 readCall s t = let d = readStrip s (length t) in record { answer = d .reading; table = over (length (d .table)) (d .table) t }
 
+-- Solving a strip: reading it, and searching what was read ---------------------------------------------------------
+
+abbrev pub solveRead : Reading → List ℤ → ℕ → List ℕ → List ℤ → SearchCall
+solveRead (reading.Refused f) t b plan trail = searchRefused f plan trail
+solveRead (reading.Read n u) t b plan trail = searchCall n t b plan trail
+
+-- there is room for the table of every strip within the limits
+unfoldable pub solveCall : List ℕ → ℕ → List ℕ → List ℤ → SearchCall
+solveCall s b plan trail = let d = readStrip s maxTable in solveRead (d .reading) (d .table) b plan trail
+
+-- the placements of the strip, 0 where it is refused
+unfoldable pub solveVariables : List ℕ → ℕ
+solveVariables s = readVariables (readStrip s maxTable .reading)
+
 -- Window ----------------------------------------------------------------------------------------------------------
+
+-- "The receipt's first 12 bytes become number, place and count"
+abbrev pub receiptLength : ℕ
+receiptLength = 12
 
 -- "four bytes each, high byte first"
 abbrev pub bytes4 : ℕ → List ℕ
@@ -147,38 +165,18 @@ bytes4 v = v / 16777216 ∷ v / 65536 % 256 ∷ v / 256 % 256 ∷ v % 256 ∷ []
 abbrev pub receiptBytes : Receipt → List ℕ
 receiptBytes r = bytes4 (r .number) ++ (bytes4 (r .place) ++ bytes4 (r .count))
 
--- what goes on the receipt, and the plan
-pub record Run : Type 0 where
-  pub receipt : Receipt
-  pub plan : List ℕ
-
-abbrev pub ran : Receipt → List ℕ → Run
-ran r plan = record { receipt = r; plan = plan }
-
-abbrev pub searchedRun : ℕ → Result Choice → List ℕ → Run
-searchedRun n r plan = ran (searchingReceipt (searchAnswer r)) (over n (planOf n (r .found)) plan)
-
--- "strip refusals except 23, then 6"; "It searches what was read, without a trail"
-abbrev pub runRead : Reading → List ℤ → ℕ → List ℕ → Run
-runRead (reading.Refused f) t b plan = ran (refusedReceipt f) plan
-runRead (reading.Read n u) t b plan = cond (ltb (length plan) n) (ran (refusedReceipt (refusal PlanShort 0)) plan) (searchedRun n (search n t b) plan)
-
-abbrev pub runOf : Decoding → ℕ → List ℕ → Run
-runOf d b plan = runRead (d .reading) (d .table) b plan
-
 pub record WindowCall : Type 0 where
   pub number : ℕ
   pub plan : List ℕ
   pub receipt : List ℕ
 
-abbrev pub written : Run → List ℕ → WindowCall
-written r old = record { number = r .receipt .number; plan = r .plan; receipt = over 12 (receiptBytes (r .receipt)) old }
+-- "The call itself returns the number"
+abbrev pub written : SearchCall → List ℕ → WindowCall
+written c old = let r = searchingReceipt (c .answer) in record { number = r .number; plan = c .plan; receipt = over receiptLength (receiptBytes r) old }
 
--- the window's own table has room for every strip within the limits
-abbrev pub windowRoom : ℕ
-windowRoom = maxTable
-
--- "Window: 9, strip refusals except 23, then 6"
+-- "Window: 9, strip refusals except 23, then 6"; "It searches what was read, without a trail": the trail is its own
 unfoldable pub windowCall : List ℕ → ℕ → List ℕ → List ℕ → WindowCall
 windowCall s b plan old =
-    cond (ltb (length old) 12) (record { number = 9; plan = plan; receipt = old }) (written (runOf (readStrip s windowRoom) b plan) old)
+    cond (ltb (length old) receiptLength)
+    (record { number = numberOf ReceiptShort; plan = plan; receipt = old })
+    (written (solveCall s b plan (replicate maxVariables (posℤ 0))) old)
