@@ -59,14 +59,11 @@ same-turn After Outside e = cc
 same-turn After Inside e = cc
 same-turn After After e = refl
 
-turn-same : (m : Mark) → same (turnOf m) (turnOf m) ≡ true
-turn-same Placements = refl
-turn-same Chapter = refl
-turn-same Opens = refl
-turn-same Taken = refl
-turn-same LeftOut = refl
-turn-same Closes = refl
-turn-same Ends = refl
+same-refl : (t : Turn) → same t t ≡ true
+same-refl Start = refl
+same-refl Outside = refl
+same-refl Inside = refl
+same-refl After = refl
 
 -- a command at an index ---------------------------------------------------------------------------------------------
 
@@ -164,4 +161,4 @@ module _ (s : List ℕ) (i : ℕ) where
     unfolding commandAt
     bytes-command =
         let b : getD s i 0 ≡ byteOf m = rw add-zero at (byte-at _ e 0) in
-        rw (b, mark-of m, turn-same m, le-leb (i + 1 + operandBytes m) (length s) bytes-long)
+        rw (b, mark-of m, same-refl (turnOf m), le-leb (i + 1 + operandBytes m) (length s) bytes-long)

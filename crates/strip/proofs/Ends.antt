@@ -45,14 +45,18 @@ module _ (s : List ℕ) (room : ℕ) where
     finish-ends : length s ≤ i → Ends i p t (finish s room p t)
     unfolding tableOf entries
     finish-ends l = cond-ind (Ends i p t) _ _ (same (p .turn) After)
-        (λ b. (refl, fits, subst (λ (u : Turn). Left s i u p t (p .variables) t) (sym (same-turn (p .turn) After b)) (record {
-          clause = [];
-          items = [];
-          strip = λ y. drop-of-length-le s l;
-          table = sym (append-nil t);
-          variables = λ q. refl;
-          allows = record { variables = d .variables; clauses = omega (arith, d .clauses); literals = omega (arith, d .literals); known = λ c l m. absurd (List·Memᴰ·not-nil m) };
-        })))
+        (λ b. (
+          refl,
+          fits,
+          subst (λ (u : Turn). Left s i u p t (p .variables) t) (sym (same-turn (p .turn) After b)) (record {
+            clause = [];
+            items = [];
+            strip = λ y. drop-of-length-le s l;
+            table = sym (append-nil t);
+            variables = λ q. refl;
+            allows = record { variables = d .variables; clauses = omega (arith, d .clauses); literals = omega (arith, d .literals); known = λ c l m. absurd (List·Memᴰ·not-nil m) };
+          }),
+        ))
         (λ b. (refl, le-refl _, λ w z. omega arith))
 
     -- after a command, which the strip from next on goes on from

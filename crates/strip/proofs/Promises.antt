@@ -57,21 +57,21 @@ module _ (s : List ℕ) (t : List ℤ) (r : Reading) (t′ : List ℤ) (is : cal
   pub accepted-exactly : Bytes s → (n u : ℕ) → (r ≡ Read n u) ↔ ((l : List Item) × StripWithin s n l × (u ≡ length (tableOf (groups l))) × (u ≤ length t))
   accepted-exactly b n u = (
     λ e.
-      let a : Answered s (length t) (Read n u) (readStrip s (length t) .table) = rw (sym reading-is ∙ e) at (answered s (length t)) in
-      let l = a .3 in
-      let k = l .allows in (
-        l .items,
-        record {
-          is = l .strip b;
-          short = a .2;
-          variables = k .variables;
-          clauses = omega (arith, k .clauses);
-          literals = omega (arith, k .literals);
-          known = record { low = λ c x mc mx. k .known c x mc mx .0; high = λ c x mc mx. k .known c x mc mx .1 };
-        },
-        a .0 ∙ ap length (l .table),
-        a .1,
-      ),
+        let a : Answered s (length t) (Read n u) (readStrip s (length t) .table) = rw (sym reading-is ∙ e) at (answered s (length t)) in
+        let l = a .3 in
+        let k = l .allows in (
+          l .items,
+          record {
+            is = l .strip b;
+            short = a .2;
+            variables = k .variables;
+            clauses = omega (arith, k .clauses);
+            literals = omega (arith, k .literals);
+            known = record { low = λ c x mc mx. k .known c x mc mx .0; high = λ c x mc mx. k .known c x mc mx .1 };
+          },
+          a .0 ∙ ap length (l .table),
+          a .1,
+        ),
     λ w. reading-is ∙ ap (λ (d : Decoding). d .reading) (within-reads s b (length t) n (w .0) (w .1) (omega (arith, w .2, w .3))) ∙ ap (Read n) (sym (w .2)),
   )
 

@@ -60,57 +60,65 @@ module _ {s : List ℕ} {room at used : ℕ} {p : Progress} {cells : List ℤ} (
   unfolding readFrom
   whole l e = rw (le-ltb at (length s) l, e, used-length) at (a .rest)
 
-  module _ (l : at < length s) where
-    followed : follow s room (readFrom s room (a .fuel)) at p (take used cells) (commandAt s at (p .turn)) ≡ readStrip s room
-    unfolding readFrom
-    followed = rw (lt-ltb at (length s) l) at (a .rest)
+  followed : at < length s → follow s room (readFrom s room (a .fuel)) at p (take used cells) (commandAt s at (p .turn)) ≡ readStrip s room
+  unfolding readFrom
+  followed l = rw (lt-ltb at (length s) l) at (a .rest)
 
-    pub no-command : (f : Refusal) → command.Refused f ≡ commandAt s at (p .turn) → notRead f ≡ readStrip s room
-    no-command f e = rw (← e) at followed
+  pub no-command : at < length s → (f : Refusal) → command.Refused f ≡ commandAt s at (p .turn) → notRead f ≡ readStrip s room
+  no-command l f e = rw (← e) at (followed l)
 
-    module _ {m : Mark} {v next : ℕ} (c : command.Command m v next ≡ commandAt s at (p .turn)) where
-      stands : Stands s at (p .turn) m v next
-      stands = rw (← c) at (command-says s at (p .turn))
+-- a command to be obeyed there
+pub record Commanded (s : List ℕ) (room at used : ℕ) (p : Progress) (cells : List ℤ) (m : Mark) (v next : ℕ) : Type 0 where
+  pub reached : Reached s room at used p cells
+  pub inside : at < length s
+  pub command : command.Command m v next ≡ commandAt s at (p .turn)
 
-      pub further : at < next
-      further = omega (arith, stands .further)
+module _ {s : List ℕ} {room at used : ℕ} {p : Progress} {cells : List ℤ} {m : Mark} {v next : ℕ} (c : Commanded s room at used p cells m v next) where
+  abbrev a : Reached s room at used p cells
+  a = c .reached
 
-      obeying : onward s room (readFrom s room (a .fuel) next) at (take used cells) (obey p v m) ≡ readStrip s room
-      obeying = rw (← c) at followed
+  stands : Stands s at (p .turn) m v next
+  stands = rw (← c .command) at (command-says s at (p .turn))
 
-      pub not-obeyed : (why : Fault) → obeyed.Refused why ≡ obey p v m → notRead (refusal why at) ≡ readStrip s room
-      not-obeyed why e = rw (← e) at obeying
+  pub further : at < next
+  further = omega (arith, stands .further)
 
-      module _ {q : Progress} {e : Stored} (g : obeyed.Goes q e ≡ obey p v m) where
-        sound : Sound q (used + elements e)
-        sound =
-            let d : Sound p (length (take used cells)) = rw used-length (a .sound) in
-            let k : Sound q (length (take used cells) + elements e) = (rw (← g) at (obey-keeps s at next p (take used cells) d m v (stands .turn) (command-bytes s at stands))) .0 in
-            rw used-length at k
+  obeying : onward s room (readFrom s room (a .fuel) next) at (take used cells) (obey p v m) ≡ readStrip s room
+  obeying = rw (← c .command) at (followed a (c .inside))
 
-        storing-rest : storing s room (readFrom s room (a .fuel) next q) at (take used cells) e ≡ readStrip s room
-        storing-rest = rw (← g) at obeying
+  pub not-obeyed : (why : Fault) → obeyed.Refused why ≡ obey p v m → notRead (refusal why at) ≡ readStrip s room
+  not-obeyed why e = rw (← e) at obeying
 
-        -- with the cells as they are then
-        reached : (cells′ : List ℤ) → length cells′ ≡ maxTable → readFrom s room (a .fuel) next q (take (used + elements e) cells′) ≡ readStrip s room →
-            Reached s room next (used + elements e) q cells′
-        reached cells′ long = go (a .fuel) (a .enough)
-          where
-            go : (k : ℕ) → length s ≤ at + k → readFrom s room k next q (take (used + elements e) cells′) ≡ readStrip s room → Reached s room next (used + elements e) q cells′
-            go zero n r = absurd (omega arith)
-            go (suc k) n r = record { short = a .short; sound = sound; long = long; fuel = k; enough = omega (arith, further); rest = r }
+  module _ {q : Progress} {e : Stored} (g : obeyed.Goes q e ≡ obey p v m) where
+    sound : Sound q (used + elements e)
+    sound =
+        let d : Sound p (length (take used cells)) = rw (used-length a) (a .sound) in
+        let k : Sound q (length (take used cells) + elements e) = (rw (← g) at (obey-keeps s at next p (take used cells) d m v (stands .turn) (command-bytes s at stands))) .0 in
+        rw (used-length a) at k
 
-      pub kept : {q : Progress} → obeyed.Goes q Nothing ≡ obey p v m → Reached s room next used q cells
-      kept g = rw add-zero at (reached g cells (a .long) (rw add-zero (storing-rest g)))
+    storing-rest : storing s room (readFrom s room (a .fuel) next q) at (take used cells) e ≡ readStrip s room
+    storing-rest = rw (← g) at obeying
 
-      module _ {q : Progress} {x : ℤ} (g : obeyed.Goes q (Element x) ≡ obey p v m) where
-        pub no-room : room ≤ used → notRead (refusal TableShort at) ≡ readStrip s room
-        no-room h = rw (le-ltb (length (take used cells)) room (omega (arith, used-length))) at (storing-rest g)
+    -- with the cells as they are then
+    reached : (cells′ : List ℤ) → length cells′ ≡ maxTable → readFrom s room (a .fuel) next q (take (used + elements e) cells′) ≡ readStrip s room →
+        Reached s room next (used + elements e) q cells′
+    reached cells′ long = go (a .fuel) (a .enough)
+      where
+        go : (k : ℕ) → length s ≤ at + k → readFrom s room k next q (take (used + elements e) cells′) ≡ readStrip s room → Reached s room next (used + elements e) q cells′
+        go zero n r = absurd (omega (arith, c .inside))
+        go (suc k) n r = record { short = a .short; sound = sound; long = long; fuel = k; enough = omega (arith, further); rest = r }
 
-        pub has-cell : used < maxTable
-        has-cell = let d = sound g in omega (arith, d .elements, d .clauses, d .literals)
+  pub kept : {q : Progress} → obeyed.Goes q Nothing ≡ obey p v m → Reached s room next used q cells
+  kept g = rw add-zero at (reached g cells (a .long) (rw add-zero (storing-rest g)))
 
-        pub stored : used < room → Reached s room next (used + 1) q (set cells used x)
-        stored h = reached g (set cells used x) (length-set cells used x ∙ a .long)
-            (rw (add-one, take-suc-set cells used x (omega (arith, has-cell, a .long)))
-            (rw (lt-ltb (length (take used cells)) room (omega (arith, used-length))) at (storing-rest g)))
+  module _ {q : Progress} {x : ℤ} (g : obeyed.Goes q (Element x) ≡ obey p v m) where
+    pub no-room : room ≤ used → notRead (refusal TableShort at) ≡ readStrip s room
+    no-room h = rw (le-ltb (length (take used cells)) room (omega (arith, used-length a))) at (storing-rest g)
+
+    pub has-cell : used < maxTable
+    has-cell = let d = sound g in omega (arith, d .elements, d .clauses, d .literals)
+
+    pub stored : used < room → Reached s room next (used + 1) q (set cells used x)
+    stored h = reached g (set cells used x) (length-set cells used x ∙ a .long)
+        (rw (add-one, take-suc-set cells used x (omega (arith, has-cell, a .long)))
+        (rw (lt-ltb (length (take used cells)) room (omega (arith, used-length a))) at (storing-rest g)))

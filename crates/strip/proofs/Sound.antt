@@ -112,20 +112,20 @@ module _ (s : List ℕ) (i next : ℕ) (p : Progress) (t : List ℤ) (d : Sound 
       (λ k. (
         record { variables = d .variables; clauses = d .clauses; literals = omega (arith, ltb-true (p .literals) maxLiterals k); elements = omega (arith, rw e at (d .elements)) },
         λ n T a.
-          let v = known-variable (p .variables) (var l) b in
-          record {
-            clause = l ∷ a .clause;
-            items = a .items;
-            strip = λ y. c y (a .clause) _ (a .strip y);
-            table = a .table ∙ append-assoc t (entryOf l ∷ []) _;
-            variables = a .variables;
-            allows = record {
-              variables = a .allows .variables;
-              clauses = a .allows .clauses;
-              literals = omega (arith, a .allows .literals);
-              known = push-range n l (v .0) (rw (a .variables refl) (v .1)) (a .clause ∷ groups (a .items)) (a .allows .known);
-            };
-          },
+            let v = known-variable (p .variables) (var l) b in
+            record {
+              clause = l ∷ a .clause;
+              items = a .items;
+              strip = λ y. c y (a .clause) _ (a .strip y);
+              table = a .table ∙ append-assoc t (entryOf l ∷ []) _;
+              variables = a .variables;
+              allows = record {
+                variables = a .allows .variables;
+                clauses = a .allows .clauses;
+                literals = omega (arith, a .allows .literals);
+                known = push-range n l (v .0) (rw (a .variables refl) (v .1)) (a .clause ∷ groups (a .items)) (a .allows .known);
+              };
+            },
       ))
       (λ k z. omega arith))
 
@@ -146,27 +146,25 @@ module _ (s : List ℕ) (i next : ℕ) (p : Progress) (t : List ℤ) (d : Sound 
       ))
   obey-keeps Chapter v e c = (
     record { variables = d .variables; clauses = d .clauses; literals = d .literals; elements = omega (arith, d .elements) },
-    λ n T a.
-      let a′ = subst (λ (u : Turn). Left s next u p t n T) e a in
-      record {
-        clause = [];
-        items = chapter v ∷ a′ .items;
-        strip = λ y. c y ∙ rw (a′ .strip y);
-        table = a′ .table;
-        variables = a′ .variables;
-        allows = a′ .allows;
-      },
+    λ n T a. let o = subst (λ (u : Turn). Left s next u p t n T) e a in record {
+      clause = [];
+      items = chapter v ∷ o .items;
+      strip = λ y. c y ∙ rw (o .strip y);
+      table = o .table;
+      variables = o .variables;
+      allows = o .allows;
+    },
   )
   obey-keeps Opens v e c = cond-ind (Keeps s i next p t Outside) _ _ (ltb (p .clauses) maxClauses)
       (λ b. (
         record { variables = d .variables; clauses = omega (arith, ltb-true (p .clauses) maxClauses b); literals = d .literals; elements = omega (arith, rw e at (d .elements)) },
-        λ n T a. record {
+        λ n T a. let k = a .allows in record {
           clause = [];
           items = group (a .clause) ∷ a .items;
           strip = λ y. c y ∙ rw (a .strip y);
           table = a .table;
           variables = a .variables;
-          allows = record { variables = a .allows .variables; clauses = omega (arith, a .allows .clauses); literals = a .allows .literals; known = a .allows .known };
+          allows = record { variables = k .variables; clauses = omega (arith, k .clauses); literals = k .literals; known = k .known };
         },
       ))
       (λ b z. omega arith)
@@ -174,28 +172,16 @@ module _ (s : List ℕ) (i next : ℕ) (p : Progress) (t : List ℤ) (d : Sound 
   obey-keeps LeftOut v e c = entered-keeps e (Neg v) (λ y b r q. c y ∙ rw q)
   obey-keeps Closes v e c = (
     record { variables = d .variables; clauses = d .clauses; literals = d .literals; elements = omega (arith, rw e at (d .elements)) },
-    λ n T a. record {
+    λ n T a. let k = a .allows in record {
       clause = [];
       items = a .items;
       strip = λ y. c y ∙ rw (a .strip y);
       table = a .table ∙ append-assoc t _ _;
       variables = a .variables;
-      allows = record {
-        variables = a .allows .variables;
-        clauses = omega (arith, a .allows .clauses);
-        literals = omega (arith, a .allows .literals);
-        known = closed-range n (groups (a .items)) (a .allows .known);
-      };
+      allows = record { variables = k .variables; clauses = omega (arith, k .clauses); literals = omega (arith, k .literals); known = closed-range n (groups (a .items)) (k .known) };
     },
   )
   obey-keeps Ends v e c = (
     record { variables = d .variables; clauses = d .clauses; literals = d .literals; elements = omega (arith, rw e at (d .elements)) },
-    λ n T a. record {
-      clause = [];
-      items = [];
-      strip = λ y. c y ∙ rw (a .strip y);
-      table = a .table;
-      variables = a .variables;
-      allows = a .allows;
-    },
+    λ n T a. record { clause = []; items = []; strip = λ y. c y ∙ rw (a .strip y); table = a .table; variables = a .variables; allows = a .allows },
   )

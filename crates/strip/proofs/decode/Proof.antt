@@ -9,11 +9,10 @@ use lib.ListN.{length, length-replicate}
 use mir.Syntax.{w16}
 use mir.ValLaws.{toZ-ofZ}
 use Rattle.literal.specs.Literal.{maxTable}
-use Rattle.theory.specs.declared.Command.the-variants as command
 use Rattle.theory.specs.declared.Stored.the-variants as stored
 use Rattle.theory.specs.declared.Obeyed.the-variants as obeyed
-use Rattle.theory.specs.Strip.{commandAt, obey, readStrip}
-use Rattle.strip.proofs.Reached.{Reached, begun, cut, whole, no-command, further, not-obeyed, kept, no-room, has-cell, stored}
+use Rattle.theory.specs.Strip.{obey, readStrip}
+use Rattle.strip.proofs.Reached.{Reached, begun, cut, whole, no-command, Commanded, further, not-obeyed, kept, no-room, has-cell, stored}
 use Rattle.strip.proofs.decode.Statement.{statement}
 use Rattle.strip.proofs.decode.Tie as tie
 
@@ -38,66 +37,58 @@ returns-2 c =
 commanded : (c : tie.After-found Inv-loop μ-loop) →
     let l = c .before .before .before .before in
     let m = c .found .given .0 in
-    command.Command (m .0) (m .1 .0) (m .1 .1 .0) ≡ commandAt (l .before .before .before .args .strip .now) (l .loop .at) (l .loop .progress .turn)
-commanded c = sym (c .found .given .1) ∙ c .before .before .command-at .ensures
+    Commanded (l .before .before .before .args .strip .now) (l .before .before .before .args .room) (l .loop .at) (l .loop .used) (l .loop .progress) (l .loop .cells) (m .0) (m .1 .0) (m .1 .1 .0)
+commanded c =
+    let r = c .before .before .before in
+    record { reached = r .before .loop .inv; inside = r .loop-test .taken; command = sym (c .found .given .1) ∙ c .before .before .command-at .ensures }
 
 -- that is not obeyed
 returns-3 : tie.Need-returns-3 Inv-loop μ-loop
 returns-3 c =
     let w = c .before .before in
-    let f = w .before .before .before .before in
-    let r = f .before .before .before in
-    c .refused2 .ensures
-    ∙ not-obeyed (r .before .loop .inv) (r .loop-test .taken) (commanded f) _ (sym (w .fault .given .1) ∙ w .before .before .obey .ensures)
+    c .refused2 .ensures ∙ not-obeyed (commanded (w .before .before .before .before)) _ (sym (w .fault .given .1) ∙ w .before .before .obey .ensures)
 
 -- or that is, and stores an element
+going : (c : tie.After-further Inv-loop μ-loop) →
+    let f = c .before .before .before .before in
+    let m = f .found .given .0 in
+    obeyed.Goes (c .further .given .0 .0) (c .further .given .0 .1 .0) ≡ obey (f .before .before .before .before .loop .progress) (m .1 .0) (m .0)
+going c = sym (c .further .given .1) ∙ c .before .before .obey .ensures
+
 storing : (c : tie.After-stored Inv-loop μ-loop) →
     let g = c .before .before .before in
     let f = g .before .before .before .before in
     let m = f .found .given .0 in
     obeyed.Goes (g .further .given .0 .0) (stored.Element (c .stored .given .0 .0)) ≡ obey (f .before .before .before .before .loop .progress) (m .1 .0) (m .0)
-storing c =
-    let g = c .before .before .before in
-    ap (obeyed.Goes (g .further .given .0 .0)) (sym (c .stored .given .1)) ∙ sym (g .further .given .1) ∙ g .before .before .obey .ensures
+storing c = rw (c .stored .given .1) at (going (c .before .before .before))
 
 returns-4 : tie.Need-returns-4 Inv-loop μ-loop
 returns-4 c =
     let k = c .before .before .before in
-    let f = k .before .before .before .before .before .before .before in
-    let r = f .before .before .before in
-    c .refused3 .ensures ∙ no-room (r .before .loop .inv) (r .loop-test .taken) (commanded f) (storing k) (c .before .if2 .taken)
+    c .refused3 .ensures ∙ no-room (commanded (k .before .before .before .before .before .before .before)) (storing k) (c .before .if2 .taken)
 
 array-set-from-cells : tie.Need-array-set-from-cells Inv-loop μ-loop
 array-set-from-cells c =
     let k = c .before .before in
-    let f = k .before .before .before .before .before .before .before in
-    let r = f .before .before .before in
-    has-cell (r .before .loop .inv) (r .loop-test .taken) (commanded f) (storing k)
+    has-cell (commanded (k .before .before .before .before .before .before .before)) (storing k)
 
 loop-again : tie.Need-loop-again Inv-loop μ-loop
 loop-again c =
     let k = c .before .before in
-    let f = k .before .before .before .before .before .before .before in
-    let r = f .before .before .before in
     rw (toZ-ofZ w16 (k .stored .given .0 .0) (record { sfits = c .before .known-told4 .given .0 .1 }))
-    (stored (r .before .loop .inv) (r .loop-test .taken) (commanded f) (storing k) (c .if2 .left))
+    (stored (commanded (k .before .before .before .before .before .before .before)) (storing k) (c .if2 .left))
 
 -- or nothing
 loop-again-2 : tie.Need-loop-again-2 Inv-loop μ-loop
 loop-again-2 c =
     let g = c .before .before .before in
-    let f = g .before .before .before .before in
-    let r = f .before .before .before in
-    kept (r .before .loop .inv) (r .loop-test .taken) (commanded f)
-    (ap (obeyed.Goes (g .further .given .0 .0)) (sym (c .enum-told2 .given .1)) ∙ sym (g .further .given .1) ∙ g .before .before .obey .ensures)
+    kept (commanded (g .before .before .before .before)) (rw (c .enum-told2 .given .1) at (going g))
 
 less : (c : tie.After-found Inv-loop μ-loop) →
     let l = c .before .before .before .before in
     let s = l .before .before .before .args .strip .now in
     length s - c .found .given .0 .1 .1 .0 < length s - l .loop .at
-less c =
-    let r = c .before .before .before in
-    omega (arith, further (r .before .loop .inv) (r .loop-test .taken) (commanded c), r .loop-test .taken)
+less c = omega (arith, further (commanded c), commanded c .inside)
 
 -- the end of the strip
 returns-5 : tie.Need-returns-5 Inv-loop μ-loop
