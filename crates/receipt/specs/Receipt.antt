@@ -9,6 +9,8 @@ use Rattle.receipt.specs.declared.Settling.{Settling}
 use Rattle.receipt.specs.declared.Settling.the-variants as settling
 use Rattle.receipt.specs.declared.Searching.{Searching}
 use Rattle.receipt.specs.declared.Searching.the-variants as searching
+use Rattle.receipt.specs.declared.Indexing.{Indexing}
+use Rattle.receipt.specs.declared.Indexing.the-variants as indexing
 use Rattle.receipt.specs.declared.Adding.{Adding}
 use Rattle.receipt.specs.declared.Adding.the-variants as adding
 use Rattle.receipt.specs.declared.Reading.{Reading}
@@ -73,6 +75,11 @@ searchingReceipt (searching.LaidOut k) = receipt 0 0 k
 searchingReceipt (searching.NoLayout k) = receipt 10 0 k
 searchingReceipt (searching.Stopped k) = receipt 11 0 k
 searchingReceipt (searching.Refused r) = refusal r
+
+-- Index: 17 indexed
+abbrev pub indexingReceipt : Indexing → Receipt
+indexingReceipt indexing.Indexed = receipt 17 0 0
+indexingReceipt (indexing.Refused r) = refusal r
 
 -- Add: 15 group added
 abbrev pub addingReceipt : Adding → Receipt

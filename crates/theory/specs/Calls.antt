@@ -8,7 +8,7 @@ use lib.ListN.{length, replicate, take, drop}
 use Rattle.general.specs.Lists.{upTo}
 use Rattle.literal.specs.Literal.{Literal, pos, neg, maxClauses, maxLiterals}
 use Rattle.receipt.specs.declared.Fault.{Fault}
-use Rattle.receipt.specs.declared.Fault.the-variants.{TooManyClauses, TooManyLiterals, UnknownVariable, PlanShort, TrailShort, ReceiptShort, UsedLengthWrong, StateShort, TableShort}
+use Rattle.receipt.specs.declared.Fault.the-variants.{TooManyClauses, TooManyLiterals, UnknownVariable, PlanShort, TrailShort, HeadsShort, ReceiptShort, UsedLengthWrong, StateShort, TableShort}
 use Rattle.receipt.specs.declared.Refusal.{Refusal}
 use Rattle.receipt.specs.declared.Checked.{Checked}
 use Rattle.receipt.specs.declared.Checked.the-variants.{Passed, Refused}
@@ -16,12 +16,15 @@ use Rattle.receipt.specs.declared.Settling.{Settling}
 use Rattle.receipt.specs.declared.Settling.the-variants as settling
 use Rattle.receipt.specs.declared.Searching.{Searching}
 use Rattle.receipt.specs.declared.Searching.the-variants as searching
+use Rattle.receipt.specs.declared.Indexing.{Indexing}
+use Rattle.receipt.specs.declared.Indexing.the-variants as indexing
+use Rattle.receipt.specs.declared.Head.{Head}
 use Rattle.receipt.specs.declared.Adding.{Adding}
 use Rattle.receipt.specs.declared.Adding.the-variants as adding
 use Rattle.receipt.specs.declared.Reading.{Reading}
 use Rattle.receipt.specs.declared.Reading.the-variants as reading
 use Rattle.receipt.specs.Receipt.{Receipt, receipt, refusal, searchingReceipt}
-use Rattle.theory.specs.Formula.{Choice, clauses}
+use Rattle.theory.specs.Formula.{Formula, Choice, clauses}
 use Rattle.theory.specs.State.{State, initial}
 use Rattle.theory.specs.Table.{zeros, nonzeros, refused, check}
 use Rattle.theory.specs.Propagation.{Settled, dead, rest, settle}
@@ -93,6 +96,38 @@ searchChecked Passed n t b plan trail =
 -- "Tables: 1, 2, 3, 4, 5, then 6, 7 (search)"
 unfoldable pub searchCall : ℕ → List ℤ → ℕ → List ℕ → List ℤ → SearchCall
 searchCall n t b plan trail = searchChecked (check n t) n t b plan trail
+
+-- Index -----------------------------------------------------------------------------------------------------------
+
+-- the head of a group
+abbrev pub head : ℕ → ℕ → Head
+head s k = record { start = s; entries = k }
+
+-- "each with its start (the index of its first element, of its 0 if it is empty) and number of entries": the first of the groups starts at s
+unfoldable pub headsFrom : ℕ → Formula → List Head
+headsFrom s [] = []
+headsFrom s (c ∷ f) = head s (length c) ∷ headsFrom (s + length c + 1) f
+
+-- "one per group"
+abbrev pub headsOf : List ℤ → List Head
+headsOf t = headsFrom 0 (clauses t)
+
+pub record IndexCall : Type 0 where
+  pub answer : Indexing
+  pub heads : List Head
+
+abbrev pub indexRefused : Refusal → List Head → IndexCall
+indexRefused r hs = record { answer = indexing.Refused r; heads = hs }
+
+abbrev pub indexChecked : Checked → List ℤ → List Head → IndexCall
+indexChecked (Refused r) t hs = indexRefused r hs
+indexChecked Passed t hs =
+    cond (ltb (length hs) (zeros t)) (indexRefused (short HeadsShort) hs)
+    (record { answer = indexing.Indexed; heads = over (zeros t) (headsOf t) hs })
+
+-- "Tables: 1, 2, 3, 4, 5, then .. 8 (index)"
+unfoldable pub indexCall : ℕ → List ℤ → List Head → IndexCall
+indexCall n t hs = indexChecked (check n t) t hs
 
 -- Add -------------------------------------------------------------------------------------------------------------
 
