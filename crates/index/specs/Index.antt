@@ -1,10 +1,10 @@
 -- How code makes the heads of a table: one group after the other. And a call of Index: its answer, and the list after it.
 use mathlib.Core.Bool.{Bool, cond}
-use mathlib.Core.List.{List, [], _∷_}
+use mathlib.Core.List.{List, [], _∷_, _++_}
 use Prim.Native.Nat.{ℕ, zero, suc, _+_}
 use lib.Dec.{ltb}
 use lib.IntN.{ℤ}
-use lib.ListN.{length, drop}
+use lib.ListN.{length, take, drop}
 use Rattle.receipt.specs.declared.Fault.the-variants.{HeadsShort}
 use Rattle.receipt.specs.declared.Refusal.{Refusal}
 use Rattle.receipt.specs.declared.Checked.{Checked}
@@ -13,7 +13,7 @@ use Rattle.receipt.specs.declared.Indexing.{Indexing}
 use Rattle.receipt.specs.declared.Indexing.the-variants as indexing
 use Rattle.receipt.specs.declared.Head.{Head}
 use Rattle.theory.specs.Table.{closes, zeros, check}
-use Rattle.theory.specs.Calls.{short, head, IndexCall}
+use Rattle.theory.specs.Calls.{short, head, IndexCall, indexCall}
 use Rattle.index.specs.declared.Next.{Next}
 use Rattle.index.specs.declared.Due.{Due}
 
@@ -43,3 +43,7 @@ dueOf n t room = dueChecked (check n t) (zeros t) room
 
 abbrev pub called : Indexing → List Head → IndexCall
 called r hs = record { answer = r; heads = hs }
+
+-- the first `room` heads of an array are lent, and the others stay
+abbrev pub indexArray : ℕ → List ℤ → List Head → ℕ → IndexCall
+indexArray n t hs room = let c = indexCall n t (take room hs) in called (c .answer) (c .heads ++ drop room hs)

@@ -1,8 +1,11 @@
 // Index: a head for each group of a table, in a lent list.
 ghost use mathlib.Core.Path.{_≡_};
+ghost use Prim.Native.Nat.{_≤_};
 ghost use lib.ListN.{length};
+ghost use Rattle.literal.specs.Literal.{maxClauses};
 ghost use Rattle.theory.specs.Calls.{indexCall};
-ghost use Rattle.index.specs.Index.{nextHead, dueRefused, dueOf, called};
+ghost use Rattle.index.specs.Index.{nextHead, dueRefused, dueOf, called, indexArray};
+use literal::Literal;
 use receipt::Checked;
 use receipt::Fault;
 use receipt::Head;
@@ -89,4 +92,20 @@ pub fn index(table: &[i16], n: usize, heads: &mut [Head]) -> Indexing
         k = k + 1;
     }
     due.answer
+}
+
+// The answer, and the array after the call.
+pub struct Filled {
+    pub answer: Indexing,
+    pub heads: [Head; Literal::MAX_CLAUSES],
+}
+
+// Index of an array by value, the first `room` heads of which are lent: whoever calls it needs no walk by hand. No table has more groups than it has heads.
+pub fn index_array(table: &[i16], n: usize, heads: [Head; Literal::MAX_CLAUSES], room: usize) -> Filled
+    requires { ⌜ room ≤ maxClauses ⌝ }
+    ensures { λ r. ⌜ called (r .answer) (r .heads) ≡ indexArray n (now (table .entry)) heads room ⌝ }
+{
+    let mut all = heads;
+    let answer = index(table, n, &mut all[..room]);
+    Filled { answer, heads: all }
 }
