@@ -101,7 +101,12 @@ pub struct Filled {
 }
 
 // Index of an array by value, the first `room` heads of which are lent: whoever calls it needs no walk by hand. No table has more groups than it has heads.
-pub fn index_array(table: &[i16], n: usize, heads: [Head; Literal::MAX_CLAUSES], room: usize) -> Filled
+pub fn index_array(
+    table: &[i16],
+    n: usize,
+    heads: [Head; Literal::MAX_CLAUSES],
+    room: usize,
+) -> Filled
     requires { ⌜ room ≤ maxClauses ⌝ }
     ensures { λ r. ⌜ called (r .answer) (r .heads) ≡ indexArray n (now (table .entry)) heads room ⌝ }
 {

@@ -24,11 +24,10 @@ returns c =
 
 loop-again : tie.Need-loop-again Inv-loop μ-loop
 loop-again c =
-    let l = c .before .before .before in
-    (
+    let l = c .before .before .before in (
       omega arith,
       next-entry (l .before .args .table .now) (l .before .args .at) (l .loop .i) (l .loop .inv .0) (c .before .before .loop-test .taken) (λ e. c .if1 .left (c .before .size-at .ensures ∙ e))
-      ∙ l .loop .inv .1,
+          ∙ l .loop .inv .1,
     )
 
 returns-2 : tie.Need-returns-2 Inv-loop μ-loop
