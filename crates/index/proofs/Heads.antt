@@ -13,15 +13,17 @@ use lib.ListN.{length, getD, drop, drop-of-length-le}
 use lib.Seq.{drop-cons, sets, sets-eq}
 use borrow.Author.Tests.{eq-eqb, ne-eqb, ltb-false}
 use Rattle.general.specs.Booleans.{cond-ind}
-use Rattle.literal.specs.Literal.{Literal, pos, neg}
+use Rattle.literal.specs.declared.Literal.{Literal}
+use Rattle.literal.specs.declared.Literal.the-variants.{Pos, Neg}
 use Rattle.receipt.specs.declared.Fault.the-variants.{HeadsShort}
 use Rattle.receipt.specs.declared.Checked.{Checked}
 use Rattle.receipt.specs.declared.Checked.the-variants.{Passed, Refused}
 use Rattle.receipt.specs.declared.Indexing.the-variants as indexing
 use Rattle.receipt.specs.declared.Head.{Head}
+use Rattle.receipt.specs.Receipt.{refusal}
 use Rattle.theory.specs.Formula.{Clause, Formula, clauses, push}
 use Rattle.theory.specs.Table.{zeros, check}
-use Rattle.theory.specs.Calls.{over, short, head, headsFrom, headsOf, IndexCall, indexRefused, indexChecked, indexCall}
+use Rattle.theory.specs.Calls.{over, head, headsFrom, headsOf, IndexCall, indexRefused, indexChecked, indexCall}
 use Rattle.theory.proofs.Heads.{clauses-zeros, heads-length, rest-at}
 use Rattle.index.specs.declared.Next.{Next}
 use Rattle.index.specs.declared.Due.{Due}
@@ -63,8 +65,8 @@ module _ (s : ℕ) where
   unfolding clauses nextFrom
   next-clause [] c f h k = absurd (let z : _≡_ {A = ℕ} 0 1 = cc in omega arith)
   next-clause (posℤ zero ∷ t) c f h k = let a : c ≡ [] = cc in rw a (ap (ended s) (omega arith))
-  next-clause (posℤ (suc p) ∷ t) c f h k = rw (eqb·suc-zero p) (next-push (pos (suc p)) t c f k (λ d e. next-clause t d f e (suc k)) (clauses t) refl h)
-  next-clause (negsuc p ∷ t) c f h k = rw (eqb·suc-zero p) (next-push (neg (suc p)) t c f k (λ d e. next-clause t d f e (suc k)) (clauses t) refl h)
+  next-clause (posℤ (suc p) ∷ t) c f h k = rw (eqb·suc-zero p) (next-push (Pos (suc p)) t c f k (λ d e. next-clause t d f e (suc k)) (clauses t) refl h)
+  next-clause (negsuc p ∷ t) c f h k = rw (eqb·suc-zero p) (next-push (Neg (suc p)) t c f k (λ d e. next-clause t d f e (suc k)) (clauses t) refl h)
 
 heads-are : (t : List ℤ) (f : Formula) (s : ℕ) → clauses (drop s t) ≡ f → headsAt (length f) t s ≡ headsFrom s f
 unfolding headsAt headsFrom
@@ -99,8 +101,8 @@ module _ (n : ℕ) (t : List ℤ) (hs : List Head) where
       go Passed = by-room (ltb (length hs) (zeros t)) refl
         where
           by-room : (b : Bool) → ltb (length hs) (zeros t) ≡ b →
-              Stored (cond b (dueRefused (short HeadsShort)) (record { answer = indexing.Indexed; heads = zeros t }))
-              (cond b (indexRefused (short HeadsShort) hs) (record { answer = indexing.Indexed; heads = over (zeros t) (headsOf t) hs }))
+              Stored (cond b (dueRefused (refusal HeadsShort 0)) (record { answer = indexing.Indexed; heads = zeros t }))
+              (cond b (indexRefused (refusal HeadsShort 0) hs) (record { answer = indexing.Indexed; heads = over (zeros t) (headsOf t) hs }))
           by-room true e = refl
           by-room false e =
               let l : length (headsOf t) ≡ zeros t = heads-length 0 (clauses t) ∙ clauses-zeros t in

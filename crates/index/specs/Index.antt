@@ -12,8 +12,9 @@ use Rattle.receipt.specs.declared.Checked.the-variants.{Passed, Refused}
 use Rattle.receipt.specs.declared.Indexing.{Indexing}
 use Rattle.receipt.specs.declared.Indexing.the-variants as indexing
 use Rattle.receipt.specs.declared.Head.{Head}
+use Rattle.receipt.specs.Receipt.{refusal}
 use Rattle.theory.specs.Table.{closes, zeros, check}
-use Rattle.theory.specs.Calls.{short, head, IndexCall, indexCall}
+use Rattle.theory.specs.Calls.{head, IndexCall, indexCall}
 use Rattle.index.specs.declared.Next.{Next}
 use Rattle.index.specs.declared.Due.{Due}
 
@@ -36,7 +37,7 @@ dueRefused r = record { answer = indexing.Refused r; heads = 0 }
 
 abbrev pub dueChecked : Checked → ℕ → ℕ → Due
 dueChecked (Refused r) groups room = dueRefused r
-dueChecked Passed groups room = cond (ltb room groups) (dueRefused (short HeadsShort)) (record { answer = indexing.Indexed; heads = groups })
+dueChecked Passed groups room = cond (ltb room groups) (dueRefused (refusal HeadsShort 0)) (record { answer = indexing.Indexed; heads = groups })
 
 unfoldable pub dueOf : ℕ → List ℤ → ℕ → Due
 dueOf n t room = dueChecked (check n t) (zeros t) room

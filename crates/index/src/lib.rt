@@ -68,10 +68,7 @@ fn due_of(table: &[i16], n: usize, room: usize) -> Due
         Checked::Passed => {}
     }
     if room < tally.clauses {
-        return refused(Refusal {
-            fault: Fault::HeadsShort,
-            place: 0,
-        });
+        return refused(Refusal::new(Fault::HeadsShort, 0));
     }
     Due {
         answer: Indexing::Indexed,

@@ -7,25 +7,24 @@ use native.Mathlib.Decide.{ℕ-discrete, decLt}
 use native.Mathlib.Omega.{arith}
 use borrow.Author.Tests.{eq-eqb, ne-eqb, eqb-true, eqb-false, lt-ltb, le-ltb}
 use lib.Dec.{eqb, ltb}
-use lib.IntN.{ℤ, negsuc, natAbs, pos as posℤ}
-use lib.Signed.{nonNeg}
-use Rattle.literal.specs.Literal.{Literal, pos, neg, var, same, codeOf, literalAt, literalOf}
-use Rattle.literal.specs.Entry.{made, read}
+use Rattle.literal.specs.declared.Literal.{Literal}
+use Rattle.literal.specs.declared.Literal.the-variants.{Pos, Neg}
+use Rattle.literal.specs.Literal.{var, same, codeOf, literalAt}
 
 -- both ways --------------------------------------------------------------------------------------------------------
 
 -- the literal at an even code and at an odd one
-pub at-even : (c : ℕ) → c % 2 ≡ 0 → literalAt c ≡ pos (c / 2)
+pub at-even : (c : ℕ) → c % 2 ≡ 0 → literalAt c ≡ Pos (c / 2)
 unfolding literalAt
 at-even c e = rw (eq-eqb (c % 2) 0 e)
 
-pub at-odd : (c : ℕ) → (c % 2 ≡ 0 → ⊥) → literalAt c ≡ neg (c / 2)
+pub at-odd : (c : ℕ) → (c % 2 ≡ 0 → ⊥) → literalAt c ≡ Neg (c / 2)
 unfolding literalAt
 at-odd c h = rw (ne-eqb (c % 2) 0 h)
 
 pub literalAt-codeOf : (l : Literal) → literalAt (codeOf l) ≡ l
-literalAt-codeOf (pos p) = at-even (2 * p) (omega arith) ∙ ap pos (omega arith)
-literalAt-codeOf (neg p) = at-odd (2 * p + 1) (λ e. omega arith) ∙ ap neg (omega arith)
+literalAt-codeOf (Pos p) = at-even (2 * p) (omega arith) ∙ ap Pos (omega arith)
+literalAt-codeOf (Neg p) = at-odd (2 * p + 1) (λ e. omega arith) ∙ ap Neg (omega arith)
 
 pub codeOf-literalAt : (c : ℕ) → codeOf (literalAt c) ≡ c
 codeOf-literalAt c = elim (ℕ-discrete (c % 2) 0) [
@@ -51,10 +50,10 @@ eqb-same a b c d f g = go (eqb c d) refl
     go false e = ne-eqb a b (λ q. eqb-false c d e (f q))
 
 pub same-code : (x y : Literal) → eqb (codeOf x) (codeOf y) ≡ same x y
-same-code (pos p) (pos q) = eqb-same (2 * p) (2 * q) p q (λ e. omega arith) (λ e. omega arith)
-same-code (pos p) (neg q) = ne-eqb (2 * p) (2 * q + 1) (λ e. omega arith)
-same-code (neg p) (pos q) = ne-eqb (2 * p + 1) (2 * q) (λ e. omega arith)
-same-code (neg p) (neg q) = eqb-same (2 * p + 1) (2 * q + 1) p q (λ e. omega arith) (λ e. omega arith)
+same-code (Pos p) (Pos q) = eqb-same (2 * p) (2 * q) p q (λ e. omega arith) (λ e. omega arith)
+same-code (Pos p) (Neg q) = ne-eqb (2 * p) (2 * q + 1) (λ e. omega arith)
+same-code (Neg p) (Pos q) = ne-eqb (2 * p + 1) (2 * q) (λ e. omega arith)
+same-code (Neg p) (Neg q) = eqb-same (2 * p + 1) (2 * q + 1) p q (λ e. omega arith) (λ e. omega arith)
 
 pub same-at : (c d : ℕ) → same (literalAt c) (literalAt d) ≡ eqb c d
 same-at c d = sym (same-code (literalAt c) (literalAt d)) ∙ rw (codeOf-literalAt c, codeOf-literalAt d)
@@ -62,8 +61,8 @@ same-at c d = sym (same-code (literalAt c) (literalAt d)) ∙ rw (codeOf-literal
 -- variables --------------------------------------------------------------------------------------------------------
 
 pub var-code : (l : Literal) → var l ≡ codeOf l / 2
-var-code (pos p) = omega arith
-var-code (neg p) = omega arith
+var-code (Pos p) = omega arith
+var-code (Neg p) = omega arith
 
 pub var-at : (c : ℕ) → var (literalAt c) ≡ c / 2
 var-at c = var-code (literalAt c) ∙ rw (codeOf-literalAt c)
@@ -80,21 +79,3 @@ open-at c = elim (decLt 1 c) [
   | yes h ↦ lt-ltb 0 (var (literalAt c)) (code-open c .0 h) ∙ sym (lt-ltb 1 c h)
   | no h ↦ le-ltb 0 (var (literalAt c)) (omega (arith, var-at c)) ∙ sym (le-ltb 1 c (omega arith))
 ]
-
--- entries ----------------------------------------------------------------------------------------------------------
-
-pub var-made : (p : ℕ) (b : Bool) → var (made p b) ≡ min p 32767
-var-made p true = refl
-var-made p false = refl
-
-pub made-inside : (p : ℕ) (b : Bool) → p ≤ 32767 → made p b ≡ cond b (pos p) (neg p)
-made-inside p true h = ap pos (omega arith)
-made-inside p false h = ap neg (omega arith)
-
-pub read-literalOf : (e : ℤ) → natAbs e ≤ 32767 → read e ≡ literalOf e
-read-literalOf (posℤ n) h = ap pos (omega arith)
-read-literalOf (negsuc n) h = ap neg (omega arith)
-
--- the code of an entry whose size is at most m
-pub read-bound : (e : ℤ) (m : ℕ) → natAbs e ≤ m → codeOf (read e) ≤ 2 * m + 1
-read-bound e m h = code-var-bound (read e) m (omega (arith, var-made (natAbs e) (nonNeg e)))

@@ -1,53 +1,61 @@
--- Literals (document 01's entries): pos p says that variable p (its placement) is taken, neg p that it is left out.
--- Variables of a formula are counted from 1. Variable 0 is the constant: pos 0 is always true and neg 0 always false.
+-- Literals (document 01's entries): Pos p says that variable p (its placement) is taken, Neg p that it is left out.
+-- Variables of a formula are counted from 1. Variable 0 is the constant: Pos 0 is always true and Neg 0 always false.
 use Prim.Native.Nat.{ℕ, zero, suc, _+_, _*_, _/_, _%_}
 use mathlib.Core.Bool.{Bool, true, false, cond}
-use lib.Dec.{eqb}
-use lib.IntN.{ℤ, negsuc, pos as posℤ}
-
-pub data Literal : Type 0 where
-  pos neg : ℕ → Literal
+use lib.Dec.{eqb, ltb}
+use lib.IntN.{ℤ, negsuc, pos}
+use Rattle.literal.specs.declared.Literal.{Literal}
+use Rattle.literal.specs.declared.Literal.the-variants.{Pos, Neg}
 
 abbrev pub TRUE : Literal
-TRUE = pos 0
+TRUE = Pos 0
 
 abbrev pub FALSE : Literal
-FALSE = neg 0
+FALSE = Neg 0
+
+-- "+p says placement p is taken, -p that it is left out"
+abbrev pub literal : ℕ → Bool → Literal
+literal p true = Pos p
+literal p false = Neg p
 
 abbrev pub var : Literal → ℕ
-var (pos p) = p
-var (neg p) = p
+var (Pos p) = p
+var (Neg p) = p
+
+-- of a variable, not of the constant
+abbrev pub isOpen : Literal → Bool
+isOpen l = ltb 0 (var l)
 
 -- the opposite of an entry
 abbrev pub opposite : Literal → Literal
-opposite (pos p) = neg p
-opposite (neg p) = pos p
+opposite (Pos p) = Neg p
+opposite (Neg p) = Pos p
 
 abbrev pub same : Literal → Literal → Bool
-same (pos p) (pos q) = eqb p q
-same (pos p) (neg q) = false
-same (neg p) (pos q) = false
-same (neg p) (neg q) = eqb p q
+same (Pos p) (Pos q) = eqb p q
+same (Pos p) (Neg q) = false
+same (Neg p) (Pos q) = false
+same (Neg p) (Neg q) = eqb p q
 
--- a literal as one number, as code keeps it
+-- a literal as one number, by which code indexes its lists
 abbrev pub codeOf : Literal → ℕ
-codeOf (pos p) = 2 * p
-codeOf (neg p) = 2 * p + 1
+codeOf (Pos p) = 2 * p
+codeOf (Neg p) = 2 * p + 1
 
 -- and back
 unfoldable pub literalAt : ℕ → Literal
-literalAt c = cond (eqb (c % 2) 0) (pos (c / 2)) (neg (c / 2))
+literalAt c = cond (eqb (c % 2) 0) (Pos (c / 2)) (Neg (c / 2))
 
 -- an element of a table as a literal: +p, -p
 abbrev pub literalOf : ℤ → Literal
-literalOf (posℤ n) = pos n
-literalOf (negsuc n) = neg (suc n)
+literalOf (pos n) = Pos n
+literalOf (negsuc n) = Neg (suc n)
 
 -- and back, as a trail writes it
 abbrev pub entryOf : Literal → ℤ
-entryOf (pos p) = posℤ p
-entryOf (neg zero) = posℤ 0
-entryOf (neg (suc p)) = negsuc p
+entryOf (Pos p) = pos p
+entryOf (Neg zero) = pos 0
+entryOf (Neg (suc p)) = negsuc p
 
 -- The three filing limits, stated once: placements, groups and entries.
 abbrev pub maxVariables : ℕ
@@ -58,3 +66,11 @@ maxClauses = 512
 
 abbrev pub maxLiterals : ℕ
 maxLiterals = 2048
+
+-- the elements of the longest table: every literal, and a 0 for every clause
+abbrev pub maxTable : ℕ
+maxTable = maxLiterals + maxClauses
+
+-- how many literals code can index: those of the constant and of every variable
+abbrev pub codes : ℕ
+codes = 2 * (maxVariables + 1)

@@ -1,10 +1,9 @@
 // Placement numbers, group numbers and the entries of a table, as literals.
 ghost use mathlib.Core.Path.{_≡_};
-ghost use Prim.Native.Nat.{_<_};
+ghost use Prim.Native.Nat.{_≤_, _<_};
 ghost use lib.IntN.{natAbs, pos};
 ghost use lib.ListN.{length, getD};
-ghost use Rattle.literal.specs.Literal.{var, opposite, entryOf, codeOf, literalAt};
-ghost use Rattle.literal.specs.Entry.{made, read, positive};
+ghost use Rattle.literal.specs.Literal.{literal, var, isOpen, opposite, same, literalOf, entryOf, codeOf, literalAt};
 
 // A placement number.
 pub struct Variable(pub u16);
@@ -12,65 +11,127 @@ pub struct Variable(pub u16);
 // A group number, counted apart.
 pub struct ClauseNumber(pub u16);
 
-// An entry by its code: 2 * p says that placement p is taken, 2 * p + 1 that it is left out. Variable 0 is the constant.
-pub struct Literal(pub u16);
+// An entry: Pos(p) says that placement p is taken, Neg(p) that it is left out. Variable 0 is the constant: Pos(0) is true, Neg(0) false.
+pub enum Literal {
+    Pos(u16),
+    Neg(u16),
+}
 
 impl Literal {
+    pub const TRUE: Literal = Literal::Pos(0);
+
+    pub const FALSE: Literal = Literal::Neg(0);
+
     pub const MAX_VARIABLES: usize = 256;
 
     pub const MAX_CLAUSES: usize = 512;
 
     pub const MAX_LITERALS: usize = 2048;
 
-    pub const TRUE: u16 = 0;
+    // The elements of the longest table: every literal, and a 0 for every clause.
+    pub const MAX_TABLE: usize = 2560;
 
-    pub const FALSE: u16 = 1;
+    // The constant and every variable; each has two codes.
+    pub const VARIABLES: usize = 257;
 
-    // A number above 32767, for which 16 bits have no code, counts as 32767, which is outside every filing too.
+    pub const CODES: usize = 514;
+
     pub fn new(variable: Variable, taken: bool) -> Literal
-        ensures { λ r. ⌜ r .0 ≡ codeOf (made (variable .0) taken) ⌝ }
+        ensures { λ r. ⌜ r ≡ literal (variable .0) taken ⌝ }
     {
-        let number = variable.0;
-        let p = if number < 32767 { number } else { 32767 };
+        let p = variable.0;
         if taken {
-            Literal(2 * p)
+            Literal::Pos(p)
         } else {
-            Literal(2 * p + 1)
+            Literal::Neg(p)
         }
     }
 
-    // Every code has one, also what -32768 reads as: both are outside every filing.
     pub fn opposite(self) -> Literal
-        ensures { λ r. ⌜ r .0 ≡ codeOf (opposite (literalAt (self .0))) ⌝ }
+        ensures { λ r. ⌜ r ≡ opposite self ⌝ }
     {
-        Literal(self.0 ^ 1)
+        let x = self;
+        match x {
+            Literal::Pos(p) => Literal::Neg(p),
+            Literal::Neg(p) => Literal::Pos(p),
+        }
     }
 
     pub fn variable(self) -> Variable
-        ensures { λ r. ⌜ r .0 ≡ var (literalAt (self .0)) ⌝ }
+        ensures { λ r. ⌜ r .0 ≡ var self ⌝ }
     {
-        Variable(self.0 / 2)
+        let x = self;
+        match x {
+            Literal::Pos(p) | Literal::Neg(p) => Variable(p),
+        }
     }
 
-    pub fn is_taken(self) -> bool
-        ensures { λ r. ⌜ r ≡ positive (literalAt (self .0)) ⌝ }
+    // Whether it is of a variable, not of the constant.
+    pub fn is_open(self) -> bool
+        ensures { λ r. ⌜ r ≡ isOpen self ⌝ }
     {
-        self.0 % 2 == 0
+        0 < self.variable().0
     }
 
-    // An element of a table. -32768 reads as 32767 left out, which is outside every filing too.
+    pub fn same(self, other: Literal) -> bool
+        ensures { λ r. ⌜ r ≡ same self other ⌝ }
+    {
+        let x = self;
+        match x {
+            Literal::Pos(p) => match other {
+                Literal::Pos(q) => p == q,
+                Literal::Neg(_) => false,
+            },
+            Literal::Neg(p) => match other {
+                Literal::Pos(_) => false,
+                Literal::Neg(q) => p == q,
+            },
+        }
+    }
+
+    // A literal as one number, by which lists are indexed: 2 * p where p is taken, 2 * p + 1 where it is left out.
+    pub fn code(self) -> u16
+        requires { ⌜ var self < 32768 ⌝ }
+        ensures { λ r. ⌜ r ≡ codeOf self ⌝ }
+    {
+        let x = self;
+        match x {
+            Literal::Pos(p) => 2 * p,
+            Literal::Neg(p) => 2 * p + 1,
+        }
+    }
+
+    pub fn of_code(code: u16) -> Literal
+        ensures { λ r. ⌜ r ≡ literalAt code ⌝ }
+    {
+        if code % 2 == 0 {
+            Literal::Pos(code / 2)
+        } else {
+            Literal::Neg(code / 2)
+        }
+    }
+
+    // An element of a table; a 0, which closes a group, reads as the constant.
     pub fn of_entry(entry: i16) -> Literal
-        ensures { λ r. ⌜ r .0 ≡ codeOf (read entry) ⌝ }
+        ensures { λ r. ⌜ r ≡ literalOf entry ⌝ }
     {
-        Literal::new(Variable(size(entry)), 0 <= entry)
+        if entry < 0 {
+            Literal::Neg(size(entry))
+        } else {
+            Literal::Pos(size(entry))
+        }
     }
 
     // The signed number as a table and a trail write it; a constant is 0.
     pub fn entry(self) -> i16
-        ensures { λ r. ⌜ r ≡ entryOf (literalAt (self .0)) ⌝ }
+        requires { ⌜ var self < 32768 ⌝ }
+        ensures { λ r. ⌜ r ≡ entryOf self ⌝ }
     {
-        let p = self.variable().0 as i16;
-        if self.is_taken() { p } else { -p }
+        let x = self;
+        match x {
+            Literal::Pos(p) => p as i16,
+            Literal::Neg(p) => -(p as i16),
+        }
     }
 }
 
@@ -95,7 +156,7 @@ pub fn size_at(table: &[i16], i: usize) -> u16
 
 pub fn literal_at(table: &[i16], i: usize) -> Literal
     requires { ⌜ i < length (now table) ⌝ }
-    ensures { λ r. ⌜ r .0 ≡ codeOf (read (getD (now (table .entry)) i (pos 0))) ⌝ }
+    ensures { λ r. ⌜ r ≡ literalOf (getD (now (table .entry)) i (pos 0)) ⌝ }
 {
     Literal::of_entry(table[i])
 }

@@ -1,6 +1,7 @@
-// What an operation answers, by cases. specs/Receipt.antt gives document 01's number, place and values of each case.
+// What an operation answers, by cases, and what each answer puts on the receipt.
 ghost use mathlib.Core.Path.{_≡_};
-ghost use Rattle.receipt.specs.Receipt.{numberOf};
+ghost use Rattle.receipt.specs.Receipt.{numberOf, outcomeNumber, refusal, refusedReceipt};
+ghost use Rattle.receipt.specs.Answers.{settlingReceipt, searchingReceipt, indexingReceipt, addingReceipt, addedLength, readingReceipt, readVariables, readLength};
 
 // Why a call is refused: the rows of document 01's table of numbers that refuse, in its order.
 pub enum Fault {
@@ -49,9 +50,36 @@ impl Fault {
     }
 }
 
+// Why, and where: document 01's place.
 pub struct Refusal {
     pub fault: Fault,
     pub place: usize,
+}
+
+// What a call puts on the receipt.
+pub struct Receipt {
+    pub number: u32,
+    pub place: usize,
+    pub count: u32,
+}
+
+impl Refusal {
+    pub fn new(fault: Fault, place: usize) -> Refusal
+        ensures { λ r. ⌜ r ≡ refusal fault place ⌝ }
+    {
+        Refusal { fault, place }
+    }
+
+    pub fn receipt(self) -> Receipt
+        ensures { λ r. ⌜ r ≡ refusedReceipt self ⌝ }
+    {
+        let fault = self.fault;
+        Receipt {
+            number: fault.number(),
+            place: self.place,
+            count: 0,
+        }
+    }
 }
 
 // A table, looked at by every operation before anything else.
@@ -60,25 +88,93 @@ pub enum Checked {
     Refused(Refusal),
 }
 
-// Settle.
+// How a search ends that is not refused.
+pub enum Outcome {
+    LaidOut,
+    NoLayout,
+    Stopped,
+}
+
+impl Outcome {
+    pub fn number(self) -> u32
+        ensures { λ r. ⌜ r ≡ outcomeNumber self ⌝ }
+    {
+        let outcome = self;
+        match outcome {
+            Outcome::LaidOut => 0,
+            Outcome::NoLayout => 10,
+            Outcome::Stopped => 11,
+        }
+    }
+}
+
+// A number with place and count 0.
+fn plain(number: u32) -> Receipt
+    ensures { λ r. ⌜ r ≡ record { number = number; place = 0; count = 0 } ⌝ }
+{
+    Receipt {
+        number,
+        place: 0,
+        count: 0,
+    }
+}
+
 pub enum Settling {
     Settled,
     NoLayout,
     Refused(Refusal),
 }
 
-// Search: each outcome with its count of splits.
+impl Settling {
+    pub fn receipt(self) -> Receipt
+        ensures { λ r. ⌜ r ≡ settlingReceipt self ⌝ }
+    {
+        let answer = self;
+        match answer {
+            Settling::Settled => plain(13),
+            Settling::NoLayout => plain(10),
+            Settling::Refused(refusal) => refusal.receipt(),
+        }
+    }
+}
+
+// Search: an outcome with its count of splits.
 pub enum Searching {
-    LaidOut(u32),
-    NoLayout(u32),
-    Stopped(u32),
+    Ended { outcome: Outcome, count: u32 },
     Refused(Refusal),
 }
 
-// Index.
+impl Searching {
+    pub fn receipt(self) -> Receipt
+        ensures { λ r. ⌜ r ≡ searchingReceipt self ⌝ }
+    {
+        let answer = self;
+        match answer {
+            Searching::Ended { outcome, count } => Receipt {
+                number: outcome.number(),
+                place: 0,
+                count,
+            },
+            Searching::Refused(refusal) => refusal.receipt(),
+        }
+    }
+}
+
 pub enum Indexing {
     Indexed,
     Refused(Refusal),
+}
+
+impl Indexing {
+    pub fn receipt(self) -> Receipt
+        ensures { λ r. ⌜ r ≡ indexingReceipt self ⌝ }
+    {
+        let answer = self;
+        match answer {
+            Indexing::Indexed => plain(17),
+            Indexing::Refused(refusal) => refusal.receipt(),
+        }
+    }
 }
 
 // What Index stores of a group: the index of its first element, of its 0 if it is empty, and its number of entries.
@@ -93,8 +189,65 @@ pub enum Adding {
     Refused(Refusal),
 }
 
+impl Adding {
+    pub fn receipt(self) -> Receipt
+        ensures { λ r. ⌜ r ≡ addingReceipt self ⌝ }
+    {
+        let answer = self;
+        match answer {
+            Adding::Added(_) => plain(15),
+            Adding::Refused(refusal) => refusal.receipt(),
+        }
+    }
+
+    pub fn used(self) -> usize
+        ensures { λ r. ⌜ r ≡ addedLength self ⌝ }
+    {
+        let answer = self;
+        match answer {
+            Adding::Added(used) => used,
+            Adding::Refused(_) => 0,
+        }
+    }
+}
+
 // Read: the number of placements and the used length.
 pub enum Reading {
-    Read(usize, usize),
+    Read { variables: usize, used: usize },
     Refused(Refusal),
+}
+
+impl Reading {
+    pub fn receipt(self) -> Receipt
+        ensures { λ r. ⌜ r ≡ readingReceipt self ⌝ }
+    {
+        let answer = self;
+        match answer {
+            Reading::Read {
+                variables: _,
+                used: _,
+            } => plain(16),
+            Reading::Refused(refusal) => refusal.receipt(),
+        }
+    }
+
+    pub fn variables(self) -> usize
+        ensures { λ r. ⌜ r ≡ readVariables self ⌝ }
+    {
+        let answer = self;
+        match answer {
+            Reading::Read { variables, used: _ } => variables,
+            Reading::Refused(_) => 0,
+        }
+    }
+
+    pub fn used(self) -> usize
+        ensures { λ r. ⌜ r ≡ readLength self ⌝ }
+    {
+        let answer = self;
+        match answer {
+            Reading::Read { variables: _, used } => used,
+            Reading::Refused(_) => 0,
+        }
+    }
 }

@@ -6,7 +6,9 @@ use mathlib.Core.List.{[], _∷_, List·Memᴰ, List·Memᴰ·head, List·Memᴰ
 use Prim.Native.Nat.{ℕ, _+_}
 use native.Mathlib.Omega.{arith}
 use Rattle.general.specs.Booleans.{bit}
-use Rattle.literal.specs.Literal.{Literal, pos, neg, var, opposite}
+use Rattle.literal.specs.declared.Literal.{Literal}
+use Rattle.literal.specs.declared.Literal.the-variants.{Pos, Neg}
+use Rattle.literal.specs.Literal.{var, opposite}
 use Rattle.theory.specs.Formula.{Clause, Formula, Assignment, holds, trueCount, Choice, assignment, Solution}
 use Rattle.theory.specs.State.{State, value, replace, assign, stand, standing, Agrees}
 use Rattle.theory.proofs.States.{replace-same, replace-ind, value-assign, Fixed}
@@ -20,12 +22,12 @@ pub record Extends (n : ℕ) (f : Formula) (s : State) (c : Choice) : Type 0 whe
 -- truth ----------------------------------------------------------------------------------------------------------
 
 pub holds-opposite : (a : Assignment) (l : Literal) → holds a (opposite l) ≡ not (holds a l)
-holds-opposite a (pos p) = refl
-holds-opposite a (neg p) = sym (Bool·not-not (a p))
+holds-opposite a (Pos p) = refl
+holds-opposite a (Neg p) = sym (Bool·not-not (a p))
 
 pub holds-alike : (a b : Assignment) (l : Literal) → a (var l) ≡ b (var l) → holds a l ≡ holds b l
-holds-alike a b (pos p) e = e
-holds-alike a b (neg p) e = ap not e
+holds-alike a b (Pos p) e = e
+holds-alike a b (Neg p) e = ap not e
 
 pub count-alike : (a b : Assignment) (c : Clause) → ((l : Literal) → List·Memᴰ l c → a (var l) ≡ b (var l)) → trueCount a c ≡ trueCount b c
 unfolding trueCount
@@ -35,8 +37,8 @@ count-alike a b (l ∷ c) e = rw (holds-alike a b l (e l (List·Memᴰ·head ref
 -- agreement ------------------------------------------------------------------------------------------------------
 
 pub agrees-value : {a : Assignment} {s : State} → Agrees a s → (l : Literal) → holds a (value s l) ≡ holds a l
-agrees-value g (pos p) = sym (g .at p)
-agrees-value {a} {s} g (neg p) = holds-opposite a (s p) ∙ ap not (sym (g .at p))
+agrees-value g (Pos p) = sym (g .at p)
+agrees-value {a} {s} g (Neg p) = holds-opposite a (s p) ∙ ap not (sym (g .at p))
 
 -- a clause has as many true occurrences as it stands: what is dropped is false
 pub count-standing : {a : Assignment} {s : State} → Agrees a s → a 0 ≡ true → (c : Clause) → trueCount a (standing s c) ≡ trueCount a c

@@ -14,11 +14,15 @@ use Rattle.general.specs.Booleans.{bool-cases, cond-ind, and-true, or-true}
 use Rattle.general.specs.Lists.{Before, here, later, before-left, before-right}
 use Rattle.general.specs.Options.{orElse-none, orElse-some, cond-some, map-some, map-none, bind-some}
 use Rattle.general.specs.Search.{find, any, find-some, any-true}
-use Rattle.literal.specs.Literal.{Literal, TRUE, FALSE, var, opposite, same}
+use Rattle.literal.specs.declared.Literal.{Literal}
+use Rattle.literal.specs.Literal.{TRUE, FALSE, var, opposite, same, isOpen}
 use Rattle.theory.specs.Formula.{Clause, Formula, Within}
-use Rattle.theory.specs.State.{State, value, standing, isOpen, WellFormed}
-use Rattle.theory.specs.Rules.{Step, deadEnd, becomes, occurs, stands, noneTrue, differ, complementary, other, isNone, partner, pairIn, live, tie, rule1, rule2, rule3, rule4, rule5, rule6, rule7, rule8}
-use Rattle.theory.specs.Propagation.{Asked, firstClause, firstPair, ask, step}
+use Rattle.theory.specs.State.{State, value, standing, WellFormed}
+use Rattle.theory.specs.declared.Step.{Step}
+use Rattle.theory.specs.declared.Step.the-variants.{DeadEnd, Becomes}
+use Rattle.theory.specs.Rules.{occurs, stands, noneTrue, differ, complementary, other, isNone, partner, pairIn, live, tie, rule1, rule2, rule3, rule4, rule5, rule6, rule7, rule8}
+use Rattle.theory.specs.declared.Asked.{Asked}
+use Rattle.theory.specs.Propagation.{firstClause, firstPair, ask, step}
 use Rattle.theory.proofs.Literals.{var-opposite}
 use Rattle.theory.proofs.States.{Fixed, Valid, fixed-opposite, value-fixed, value-low, well-based, base-true, base-false}
 use Rattle.theory.proofs.Clauses.{Stems, standing-mem, occurs-mem, stands-mem}
@@ -43,9 +47,9 @@ pub data AsksTwo (g h : Clause) : Literal → Literal → Type 0 where
   crossed : {x t : Literal} (y z : Literal) → List·Memᴰ y g → List·Memᴰ (opposite y) h → List·Memᴰ z g → List·Memᴰ (opposite z) h → 0 < var y → 0 < var z →
       Ties y z x t → AsksTwo g h x t
 
--- rule 1
-abbrev pub DeadEnd : Clause → Type 0
-DeadEnd c = (2 ≤ occurs TRUE c) ⊎ (c ≡ [])
+-- rule 1: no choice meets the clause
+abbrev pub Unmeetable : Clause → Type 0
+Unmeetable c = (2 ≤ occurs TRUE c) ⊎ (c ≡ [])
 
 -- some rule asks at s that x becomes t
 pub data Asks (f : Formula) (s : State) : Literal → Literal → Type 0 where
@@ -55,7 +59,7 @@ pub data Asks (f : Formula) (s : State) : Literal → Literal → Type 0 where
 pub record Dies (f : Formula) (s : State) : Type 0 where
   pub clause : Clause
   pub member : List·Memᴰ clause f
-  pub dead-end : DeadEnd (standing s clause)
+  pub dead-end : Unmeetable (standing s clause)
 
 -- every step that is asked is valid ------------------------------------------------------------------------------
 
@@ -111,20 +115,20 @@ module _ {n : ℕ} {f : Formula} {s : State} (within : Within n f) (w : WellForm
 -- from the fixed order to a step that is asked -------------------------------------------------------------------
 
 abbrev pub Allowed : Formula → State → Step → Type 0
-Allowed f s deadEnd = Dies f s
-Allowed f s (becomes x t) = Asks f s x t
+Allowed f s DeadEnd = Dies f s
+Allowed f s (Becomes x t) = Asks f s x t
 
 -- what a step of one clause, or of two, says
 abbrev One : Clause → Step → Type 0
-One c deadEnd = DeadEnd c
-One c (becomes x t) = AsksOne c x t
+One c DeadEnd = Unmeetable c
+One c (Becomes x t) = AsksOne c x t
 
 abbrev Two : Clause → Clause → Step → Type 0
-Two g h deadEnd = ⊥
-Two g h (becomes x t) = AsksTwo g h x t
+Two g h DeadEnd = ⊥
+Two g h (Becomes x t) = AsksTwo g h x t
 
-tied : (P : Step → Type 0) (y z : Literal) → var y ≢ var z → ((x t : Literal) → Ties y z x t → P (becomes x t)) → P (tie y z)
-tied P y z d k = cond-ind P (becomes z (opposite y)) (becomes y (opposite z)) (ltb (var y) (var z))
+tied : (P : Step → Type 0) (y z : Literal) → var y ≢ var z → ((x t : Literal) → Ties y z x t → P (Becomes x t)) → P (tie y z)
+tied P y z d k = cond-ind P (Becomes z (opposite y)) (Becomes y (opposite z)) (ltb (var y) (var z))
     (λ e. k z (opposite y) (up (ltb-true (var y) (var z) e)))
     (λ e. k y (opposite z) (down (let h = ltb-false (var y) (var z) e in omega arith)))
 
@@ -138,8 +142,8 @@ module _ (c : Clause) (f : NoFalse c) where
 
   rule1-one : (s : Step) → rule1 c ≡ some s → One c s
   rule1-one s e =
-      let w = cond-some _ (some deadEnd) s e in
-      rw (← some-injective deadEnd s (w .1)) (⊎-elim
+      let w = cond-some _ (some DeadEnd) s e in
+      rw (← some-injective DeadEnd s (w .1)) (⊎-elim
       (λ h. inl (leb-true 2 (occurs TRUE c) h))
       (λ h. inr (empty c (eqb-true (length c) 0 h)))
       (or-true (leb 2 (occurs TRUE c)) (eqb (length c) 0) (w .0)))
@@ -151,21 +155,21 @@ module _ (c : Clause) (f : NoFalse c) where
   rule2-one : (s : Step) → rule2 c ≡ some s → One c s
   rule2-one s e =
       let w = cond-some _ _ s e in
-      let m = map-some (λ x. becomes x FALSE) (find isOpen c) s (w .1) in
+      let m = map-some (λ x. Becomes x FALSE) (find isOpen c) s (w .1) in
       let x = find-some isOpen c (m .0) (m .1) in
       rw (← m .2) (one-true (occurs-mem c TRUE (let h = eqb-true (occurs TRUE c) 1 (w .0) in omega arith)) (x .0) (ltb-true 0 (var (m .0)) (x .1)))
 
   rule4-one : (s : Step) → rule4 c ≡ some s → One c s
   rule4-one s e =
       let w = cond-some _ _ s e in
-      let m = map-some (λ x. becomes x FALSE) (find (λ x. leb 2 (occurs x c)) c) s (w .1) in
+      let m = map-some (λ x. Becomes x FALSE) (find (λ x. leb 2 (occurs x c)) c) s (w .1) in
       let x = find-some (λ x. leb 2 (occurs x c)) c (m .0) (m .1) in
       rw (← m .2) (stands-twice (leb-true 2 (occurs (m .0) c) (x .1)) (none-true-open (w .0) (m .0) (x .0)))
 
   rule5-one : (s : Step) → rule5 c ≡ some s → One c s
   rule5-one s e =
       let w = cond-some _ _ s e in
-      let m = map-some (λ x. becomes x FALSE) _ s (w .1) in
+      let m = map-some (λ x. Becomes x FALSE) _ s (w .1) in
       let b = bind-some (complementary c) (other c) (m .0) (m .1) in
       let y = find-some (λ x. stands (opposite x) c) c (b .0) (b .1) in
       let x = find-some (λ y. differ (b .0) y) c (m .0) (b .2) in
@@ -175,8 +179,8 @@ module _ (c : Clause) (f : NoFalse c) where
 rule3-one : (c : Clause) (s : Step) → rule3 c ≡ some s → One c s
 rule3-one [] s e = absurd (Option·none-ne-some s e)
 rule3-one (x ∷ []) s e =
-    let w = cond-some (isOpen x) (some (becomes x TRUE)) s e in
-    rw (← some-injective (becomes x TRUE) s (w .1)) (only-one refl (ltb-true 0 (var x) (w .0)))
+    let w = cond-some (isOpen x) (some (Becomes x TRUE)) s e in
+    rw (← some-injective (Becomes x TRUE) s (w .1)) (only-one refl (ltb-true 0 (var x) (w .0)))
 rule3-one (x ∷ y ∷ c) s e = absurd (Option·none-ne-some s e)
 
 rule6-one : (c : Clause) (s : Step) → rule6 c ≡ some s → One c s
@@ -197,7 +201,7 @@ module _ (g h : Clause) (f : NoFalse g) where
   rule7-two : (s : Step) → rule7 g h ≡ some s → Two g h s
   rule7-two s e =
       let w = cond-some _ _ s e in
-      let m = map-some (λ x. becomes x FALSE) _ s (w .1) in
+      let m = map-some (λ x. Becomes x FALSE) _ s (w .1) in
       let x = find-some (λ x. stands x h && any (λ y. stands (opposite y) h && differ x y) g) g (m .0) (m .1) in
       let a = and-true (stands (m .0) h) _ (x .1) in
       let y = any-true (λ y. stands (opposite y) h && differ (m .0) y) g (a .1) in
@@ -259,8 +263,8 @@ module _ (f : Formula) (s : State) (a : Asked) where
   from-one rule ok e = let w = clause-some (standing s) rule 1 f a e in lift (a .step) (w .0) (w .1) (ok (w .0) (w .2))
     where
       lift : (t : Step) (c : Clause) → List·Memᴰ c f → One (standing s c) t → Allowed f s t
-      lift deadEnd c m h = record { clause = c; member = m; dead-end = h }
-      lift (becomes x t) c m h = by-one c m h
+      lift DeadEnd c m h = record { clause = c; member = m; dead-end = h }
+      lift (Becomes x t) c m h = by-one c m h
 
   from-two : (rule : Clause → Clause → Option Step) →
       ((g h : Clause) → rule (standing s g) (standing s h) ≡ some (a .step) → Two (standing s g) (standing s h) (a .step)) →
@@ -268,8 +272,8 @@ module _ (f : Formula) (s : State) (a : Asked) where
   from-two rule ok e = let w = pair-some (standing s) rule 1 f a e in lift (a .step) (w .0) (w .1) (w .2) (ok (w .0) (w .1) (w .3))
     where
       lift : (t : Step) (g h : Clause) → Before g h f → Two (standing s g) (standing s h) t → Allowed f s t
-      lift deadEnd g h b k = absurd k
-      lift (becomes x t) g h b k = by-two g h b k
+      lift DeadEnd g h b k = absurd k
+      lift (Becomes x t) g h b k = by-two g h b k
 
   pub step-allowed : step f s ≡ some a → Allowed f s (a .step)
   unfolding ask

@@ -10,7 +10,9 @@ use native.Mathlib.Decide.{decLt}
 use lib.Dec.{eqb, ltb}
 use borrow.Author.Tests.{eqb-true, lt-ltb, le-ltb}
 use Rattle.general.specs.Booleans.{bool-cases, true-not-false}
-use Rattle.literal.specs.Literal.{Literal, pos, TRUE, FALSE, var}
+use Rattle.literal.specs.declared.Literal.{Literal}
+use Rattle.literal.specs.declared.Literal.the-variants.{Pos}
+use Rattle.literal.specs.Literal.{TRUE, FALSE, var}
 use Rattle.theory.specs.Formula.{Clause, Formula, Assignment, Choice, assignment, Within}
 use Rattle.theory.specs.Order.{_≼_, Least, IsLeast}
 use Rattle.theory.specs.State.{State, assign, standing, opens, WellFormed}
@@ -42,7 +44,7 @@ module _ {n : ℕ} {f : Formula} {s : State} (w : WellFormed n s) (within : With
     inside : p ≤ n
     inside = live-inside w within (b .member)
 
-    root : s p ≡ pos p
+    root : s p ≡ Pos p
     root = live-root w within (b .member)
 
     -- clearing the open variables below p keeps a solution, since they stand in no live clause
@@ -53,16 +55,16 @@ module _ {n : ℕ} {f : Formula} {s : State} (w : WellFormed n s) (within : With
         count-standing (e .agrees) refl d ∙
         e .solves .satisfies d m)
 
-    branch-before : (c d : Choice) → Least _≼_ (Extends n f (assign (pos p) FALSE s)) c → Extends n f (assign (pos p) TRUE s) d → c ≼ d
+    branch-before : (c d : Choice) → Least _≼_ (Extends n f (assign (Pos p) FALSE s)) c → Extends n f (assign (Pos p) TRUE s) d → c ≼ d
     branch-before c d first taken = ≼-trans c e d
-        (first .least e (extends-assign s (pos p) FALSE root n f e .1 (still, left-out)))
+        (first .least e (extends-assign s (Pos p) FALSE root n f e .1 (still, left-out)))
         (≼-roots w e d (still .solves .long) (right .0 .solves .long) (still .agrees) (right .0 .agrees) follows)
       where
         left : Extends n f s c × (assignment c p ≡ false)
-        left = extends-assign s (pos p) FALSE root n f c .0 (first .member)
+        left = extends-assign s (Pos p) FALSE root n f c .0 (first .member)
 
         right : Extends n f s d × (assignment d p ≡ true)
-        right = extends-assign s (pos p) TRUE root n f d .0 taken
+        right = extends-assign s (Pos p) TRUE root n f d .0 taken
 
         v : Assignment
         v = cleared (assignment c) p
@@ -73,13 +75,13 @@ module _ {n : ℕ} {f : Formula} {s : State} (w : WellFormed n s) (within : With
         still : Extends n f s e
         still = cleared-extends c (left .0)
 
-        at-root : (q : ℕ) → s q ≡ pos q → q ≤ n → assignment e q ≡ v q
+        at-root : (q : ℕ) → s q ≡ Pos q → q ≤ n → assignment e q ≡ v q
         at-root = choice-root w v (cleared-below (assignment c) p 0 positive)
 
         left-out : assignment e p ≡ false
         left-out = at-root p root inside ∙ cleared-from (assignment c) p p (omega arith) ∙ left .1
 
-        follows : (q : ℕ) → 0 < q → q ≤ n → s q ≡ pos q → ((r : ℕ) → r < q → assignment e r ≡ assignment d r) → assignment e q ≡ true → assignment d q ≡ true
+        follows : (q : ℕ) → 0 < q → q ≤ n → s q ≡ Pos q → ((r : ℕ) → r < q → assignment e r ≡ assignment d r) → assignment e q ≡ true → assignment d q ≡ true
         follows q low high r alike one = elim (decLt q p) [
           | yes h ↦ absurd (omega (arith, eqb-true q 0 (sym (at-root q r high ∙ cleared-below (assignment c) p q h) ∙ one)))
           | no h ↦ elim (decLt p q) [
@@ -88,26 +90,26 @@ module _ {n : ℕ} {f : Formula} {s : State} (w : WellFormed n s) (within : With
           ]
         ]
 
-    valid : (t : Literal) → Fixed s t → var t ≡ 0 → Valid n s (pos p) t
+    valid : (t : Literal) → Fixed s t → var t ≡ 0 → Valid n s (Pos p) t
     valid t e z = record { fixed-x = root; fixed-t = e; lower = omega (arith, positive); inside = inside }
 
-    pub branch-branches : Branches (WellFormed n) (λ u. opens u n) (Extends n f) _≼_ s (assign (pos p) FALSE s) (assign (pos p) TRUE s)
+    pub branch-branches : Branches (WellFormed n) (λ u. opens u n) (Extends n f) _≼_ s (assign (Pos p) FALSE s) (assign (Pos p) TRUE s)
     branch-branches = record {
       good-left = assign-well w left-out;
       good-right = assign-well w taken;
       less-left = omega (arith, opens-assign w left-out n positive inside);
       less-right = omega (arith, opens-assign w taken n positive inside);
-      into = λ c e. ⊎-elim (λ h. inr (extends-assign s (pos p) TRUE root n f c .1 (e, h))) (λ h. inl (extends-assign s (pos p) FALSE root n f c .1 (e, h)))
+      into = λ c e. ⊎-elim (λ h. inr (extends-assign s (Pos p) TRUE root n f c .1 (e, h))) (λ h. inl (extends-assign s (Pos p) FALSE root n f c .1 (e, h)))
           (bool-cases (assignment c p));
-      from-left = λ c e. extends-assign s (pos p) FALSE root n f c .0 e .0;
-      from-right = λ c e. extends-assign s (pos p) TRUE root n f c .0 e .0;
+      from-left = λ c e. extends-assign s (Pos p) FALSE root n f c .0 e .0;
+      from-right = λ c e. extends-assign s (Pos p) TRUE root n f c .0 e .0;
       before = branch-before;
     }
       where
-        left-out : Valid n s (pos p) FALSE
+        left-out : Valid n s (Pos p) FALSE
         left-out = valid FALSE (base-false (well-based w)) refl
 
-        taken : Valid n s (pos p) TRUE
+        taken : Valid n s (Pos p) TRUE
         taken = valid TRUE (base-true (well-based w)) refl
 
   pub splitOn-means : Means (WellFormed n) (λ u. opens u n) (Extends n f) _≼_ s (splitOn n s (branchVariable f s))

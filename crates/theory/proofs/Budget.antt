@@ -6,7 +6,8 @@ use Prim.Native.Nat.{ℕ, zero, suc, _+_, _-_, _≤_, _<_, min}
 use native.Mathlib.Omega.{arith}
 use native.Mathlib.Decide.{decLe, decLt}
 use borrow.Author.Tests.{le-leb, lt-leb}
-use Rattle.literal.specs.Literal.{Literal, pos, neg}
+use Rattle.literal.specs.declared.Literal.{Literal}
+use Rattle.literal.specs.declared.Literal.the-variants.{Pos, Neg}
 use Rattle.theory.specs.Tree.{branch, Found, Run, run, through, second, visit, Outcome, laidOut, noLayout, stopped, Result, finished, limited}
 
 module _ {A : Type 0} where
@@ -99,19 +100,19 @@ module _ {S A : Type 0} (walk : S → Run A) (p : ℕ) (l r : S) where
         limited-short (suc b) (visit walk (branch p l r)) (omega (arith, second-made (walk l .splits) (walk l .found)))
 
     pub limited-first : (a : Found A) (k : ℕ) → limited b (walk l) ≡ result (laidOut a) k →
-        limited (suc b) (visit walk (branch p l r)) ≡ result (laidOut (through (neg p) a)) (1 + k)
+        limited (suc b) (visit walk (branch p l r)) ≡ result (laidOut (through (Neg p) a)) (1 + k)
     limited-first a k e =
         let f = limited-finished b (walk l) (some a) k e in
         let q : k ≤ b = omega (arith, f .enough, f .splits) in
-        rw (f .found, f .splits) (limited-enough (suc b) (run (some (through (neg p) a)) (1 + k)) (omega arith))
+        rw (f .found, f .splits) (limited-enough (suc b) (run (some (through (Neg p) a)) (1 + k)) (omega arith))
 
     pub limited-second : (k : ℕ) → limited b (walk l) ≡ result noLayout k →
         limited (suc b) (visit walk (branch p l r)) ≡
-        result (outcomeThrough (pos p) (limited (b - k) (walk r) .outcome)) (1 + k + limited (b - k) (walk r) .count)
+        result (outcomeThrough (Pos p) (limited (b - k) (walk r) .outcome)) (1 + k + limited (b - k) (walk r) .count)
     limited-second k e =
         let f = limited-finished b (walk l) none k e in
         let q : k ≤ b = omega (arith, f .enough, f .splits) in
-        let whole : Run A = run (Option·map (through (pos p)) (walk r .found)) (1 + k + walk r .splits) in
+        let whole : Run A = run (Option·map (through (Pos p)) (walk r .found)) (1 + k + walk r .splits) in
         rw (f .found, f .splits)
         (elim (decLe (walk r .splits) (b - k)) [
           | yes h ↦ rw (limited-enough (b - k) (walk r) h, ← finished-through) (limited-enough (suc b) whole (omega arith))

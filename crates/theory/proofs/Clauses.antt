@@ -8,7 +8,8 @@ use native.Mathlib.Omega.{arith}
 use lib.Dec.{ltb}
 use borrow.Author.Tests.{ltb-true, ltb-false, lt-ltb}
 use Rattle.general.specs.Booleans.{bit, bool-cases}
-use Rattle.literal.specs.Literal.{Literal, TRUE, FALSE, var, opposite, same}
+use Rattle.literal.specs.declared.Literal.{Literal}
+use Rattle.literal.specs.Literal.{TRUE, FALSE, var, opposite, same}
 use Rattle.theory.specs.Formula.{Clause}
 use Rattle.theory.specs.State.{State, value, stand, standing}
 use Rattle.theory.specs.Rules.{occurs, stands}

@@ -13,10 +13,11 @@ use borrow.Author.Tests.{eqb-true, eqb-false, eq-eqb, ne-eqb, leb-false, le-leb,
 use Rattle.general.specs.Booleans.{bit, bool-cases, true-not-false, and-intro, or-left}
 use Rattle.general.specs.Options.{cond-none, map-none, bind-none}
 use Rattle.general.specs.Search.{find, any, find-none, find-some, any-intro}
-use Rattle.literal.specs.Literal.{Literal, TRUE, FALSE, var, opposite, same}
+use Rattle.literal.specs.declared.Literal.{Literal}
+use Rattle.literal.specs.Literal.{TRUE, FALSE, var, opposite, same, isOpen}
 use Rattle.theory.specs.Formula.{Clause}
-use Rattle.theory.specs.State.{isOpen}
-use Rattle.theory.specs.Rules.{occurs, stands, noneTrue, differ, when, becomesFalse, complementary, other, isNone, restsOn, atRest, live, partner, pairIn, tie, Step, rule1, rule2, rule3, rule4, rule5, rule6, rule7, rule8}
+use Rattle.theory.specs.declared.Step.{Step}
+use Rattle.theory.specs.Rules.{occurs, stands, noneTrue, differ, when, becomesFalse, complementary, other, isNone, restsOn, atRest, live, partner, pairIn, tie, rule1, rule2, rule3, rule4, rule5, rule6, rule7, rule8}
 use Rattle.theory.proofs.Literals.{opposite-opposite, var-opposite, opposite-ne, same-refl, literal-cases, of-variable, constant}
 use Rattle.theory.proofs.Clauses.{occurs-here, occurs-tail, occurs-other, mem-occurs, occurs-mem, mem-stands, stands-mem}
 

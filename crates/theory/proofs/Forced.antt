@@ -8,7 +8,8 @@ use Prim.Native.Nat.{ℕ, zero, suc, _+_, _<_, _≤_}
 use native.Mathlib.Omega.{arith}
 use lib.ListN.{length}
 use Rattle.general.specs.Lists.{Before, before-left, before-right}
-use Rattle.literal.specs.Literal.{Literal, TRUE, FALSE, var, opposite}
+use Rattle.literal.specs.declared.Literal.{Literal}
+use Rattle.literal.specs.Literal.{TRUE, FALSE, var, opposite}
 use Rattle.theory.specs.Formula.{Clause, Formula}
 use Rattle.theory.specs.State.{State, value, stand, standing}
 use Rattle.theory.specs.Rules.{occurs, rule7, rule8}
@@ -16,7 +17,7 @@ use Rattle.theory.proofs.Literals.{opposite-opposite, var-opposite, opp
 use Rattle.theory.proofs.States.{Based, base-true, base-false, Refines, value-opposite}
 use Rattle.theory.proofs.Clauses.{occurs-here, occurs-other, mem-occurs, stand-ind, mem-standing, standing-refines, occurs-image, occurs-images}
 use Rattle.theory.proofs.Closed.{Alive, Closed, met, resting, alive, quiet-closed, no-common, no-crossed, alive-none-true}
-use Rattle.theory.proofs.Asks.{Ties, up, down, AsksOne, one-true, only-one, stands-twice, opposites, only-two, AsksTwo, common, crossed, DeadEnd, Asks, by-one, by-two, Dies, Rests, standing-no-false}
+use Rattle.theory.proofs.Asks.{Ties, up, down, AsksOne, one-true, only-one, stands-twice, opposites, only-two, AsksTwo, common, crossed, Unmeetable, Asks, by-one, by-two, Dies, Rests, standing-no-false}
 
 -- closed clauses -------------------------------------------------------------------------------------------------
 

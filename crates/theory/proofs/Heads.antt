@@ -10,7 +10,9 @@ use lib.IntN.{ℤ, negsuc, pos as posℤ}
 use lib.ListN.{length, getD, take, drop, length-drop}
 use lib.Seq.{drop-drop, getD-drop, drop-length}
 use Rattle.general.specs.Booleans.{true-not-false}
-use Rattle.literal.specs.Literal.{Literal, pos, neg, literalOf}
+use Rattle.literal.specs.declared.Literal.{Literal}
+use Rattle.literal.specs.declared.Literal.the-variants.{Pos, Neg}
+use Rattle.literal.specs.Literal.{literalOf}
 use Rattle.receipt.specs.declared.Head.{Head}
 use Rattle.theory.specs.Formula.{Clause, Formula, clauses, push}
 use Rattle.theory.specs.Table.{zeros, endsOpen}
@@ -37,8 +39,8 @@ front [] c f h = absurd (let z : _≡_ {A = ℕ} 0 1 = cc in omega arith)
 front (posℤ zero ∷ t) c f h =
     let a : c ≡ [] = cc in
     rw a (record { literals = refl; rest = cc; inside = omega arith; zero-after = refl })
-front (posℤ (suc p) ∷ t) c f h = front-entry (posℤ (suc p)) (pos (suc p)) t c f refl (λ d. front t d f) (clauses t) refl h
-front (negsuc p ∷ t) c f h = front-entry (negsuc p) (neg (suc p)) t c f refl (λ d. front t d f) (clauses t) refl h
+front (posℤ (suc p) ∷ t) c f h = front-entry (posℤ (suc p)) (Pos (suc p)) t c f refl (λ d. front t d f) (clauses t) refl h
+front (negsuc p ∷ t) c f h = front-entry (negsuc p) (Neg (suc p)) t c f refl (λ d. front t d f) (clauses t) refl h
 
 push-length : (l : Literal) (f : Formula) → length (push l f) ≡ length f
 push-length l [] = refl
@@ -49,8 +51,8 @@ pub clauses-zeros : (t : List ℤ) → length (clauses t) ≡ zeros t
 unfolding clauses zeros
 clauses-zeros [] = refl
 clauses-zeros (posℤ zero ∷ t) = omega (arith, clauses-zeros t)
-clauses-zeros (posℤ (suc p) ∷ t) = rw (eqb·suc-zero p) (omega (arith, push-length (pos (suc p)) (clauses t), clauses-zeros t))
-clauses-zeros (negsuc p ∷ t) = rw (eqb·suc-zero p) (omega (arith, push-length (neg (suc p)) (clauses t), clauses-zeros t))
+clauses-zeros (posℤ (suc p) ∷ t) = rw (eqb·suc-zero p) (omega (arith, push-length (Pos (suc p)) (clauses t), clauses-zeros t))
+clauses-zeros (negsuc p ∷ t) = rw (eqb·suc-zero p) (omega (arith, push-length (Neg (suc p)) (clauses t), clauses-zeros t))
 
 pub heads-length : (s : ℕ) (f : Formula) → length (headsFrom s f) ≡ length f
 unfolding headsFrom

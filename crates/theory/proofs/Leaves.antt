@@ -9,7 +9,9 @@ use lib.ListN.{length}
 use borrow.Author.Tests.{eqb-true}
 use Rattle.general.specs.Booleans.{bit-not}
 use Rattle.general.specs.Lists.{upTo, length-from}
-use Rattle.literal.specs.Literal.{Literal, pos, var}
+use Rattle.literal.specs.declared.Literal.{Literal}
+use Rattle.literal.specs.declared.Literal.the-variants.{Pos}
+use Rattle.literal.specs.Literal.{var}
 use Rattle.theory.specs.Formula.{Clause, Formula, Assignment, holds, trueCount, Met, Choice, assignment, Within}
 use Rattle.theory.specs.Order.{_≼_, Least}
 use Rattle.theory.specs.State.{State, standing, Agrees, WellFormed}
@@ -28,14 +30,14 @@ choiceFrom n s v = upTo (λ p. holds v (s p)) n
 module _ {n : ℕ} {s : State} (w : WellFormed n s) where
   -- where two choices that agree with s first differ, they differ at an open variable
   pub ≼-roots : (c d : Choice) → length c ≡ n → length d ≡ n → Agrees (assignment c) s → Agrees (assignment d) s →
-      ((p : ℕ) → 0 < p → p ≤ n → s p ≡ pos p → ((q : ℕ) → q < p → assignment c q ≡ assignment d q) → assignment c p ≡ true → assignment d p ≡ true) → c ≼ d
+      ((p : ℕ) → 0 < p → p ≤ n → s p ≡ Pos p → ((q : ℕ) → q < p → assignment c q ≡ assignment d q) → assignment c p ≡ true → assignment d p ≡ true) → c ≼ d
   ≼-roots c d e f g h roots = ≼-by n c d e f (λ p low high alike taken. elim (ℕ-discrete (var (s p)) p) [
     | yes r ↦ roots p low high (rw r at (fixed-pos s (s p) (w .fixed p))) alike taken
     | no r ↦ h .at p ∙ sym (holds-alike (assignment c) (assignment d) (s p) (alike (var (s p)) (omega (arith, w .low p)))) ∙ sym (g .at p) ∙ taken
   ])
 
   module _ (v : Assignment) (base : v 0 ≡ true) where
-    pub choice-root : (p : ℕ) → s p ≡ pos p → p ≤ n → assignment (choiceFrom n s v) p ≡ v p
+    pub choice-root : (p : ℕ) → s p ≡ Pos p → p ≤ n → assignment (choiceFrom n s v) p ≡ v p
     choice-root zero e h = sym base
     choice-root (suc p) e h = assignment-upTo (λ p. holds v (s p)) n (suc p) (omega arith) h ∙ ap (holds v) e
 

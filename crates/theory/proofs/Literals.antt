@@ -8,32 +8,34 @@ use native.Mathlib.Decide.{ℕ-discrete}
 use lib.Dec.{eqb}
 use borrow.Author.Tests.{eqb-true, eqb-false, eq-eqb, ne-eqb}
 use Rattle.general.specs.Booleans.{true-not-false, bool-cases}
-use Rattle.literal.specs.Literal.{Literal, pos, neg, TRUE, FALSE, var, opposite, same}
+use Rattle.literal.specs.declared.Literal.{Literal}
+use Rattle.literal.specs.declared.Literal.the-variants.{Pos, Neg}
+use Rattle.literal.specs.Literal.{TRUE, FALSE, var, opposite, same}
 
 pub opposite-opposite : (l : Literal) → opposite (opposite l) ≡ l
-opposite-opposite (pos p) = refl
-opposite-opposite (neg p) = refl
+opposite-opposite (Pos p) = refl
+opposite-opposite (Neg p) = refl
 
 pub var-opposite : (l : Literal) → var (opposite l) ≡ var l
-var-opposite (pos p) = refl
-var-opposite (neg p) = refl
+var-opposite (Pos p) = refl
+var-opposite (Neg p) = refl
 
 pub opposite-ne : (l : Literal) → opposite l ≢ l
-opposite-ne (pos p) e = let z : _≡_ {A = ℕ} 0 1 = cc in omega arith
-opposite-ne (neg p) e = let z : _≡_ {A = ℕ} 0 1 = cc in omega arith
+opposite-ne (Pos p) e = let z : _≡_ {A = ℕ} 0 1 = cc in omega arith
+opposite-ne (Neg p) e = let z : _≡_ {A = ℕ} 0 1 = cc in omega arith
 
 pub opposite-injective : (x y : Literal) → opposite x ≡ opposite y → x ≡ y
 opposite-injective x y e = sym (opposite-opposite x) ∙ ap opposite e ∙ opposite-opposite y
 
 pub same-true : (x y : Literal) → same x y ≡ true → x ≡ y
-same-true (pos p) (pos q) e = ap pos (eqb-true p q e)
-same-true (pos p) (neg q) e = absurd (true-not-false e refl)
-same-true (neg p) (pos q) e = absurd (true-not-false e refl)
-same-true (neg p) (neg q) e = ap neg (eqb-true p q e)
+same-true (Pos p) (Pos q) e = ap Pos (eqb-true p q e)
+same-true (Pos p) (Neg q) e = absurd (true-not-false e refl)
+same-true (Neg p) (Pos q) e = absurd (true-not-false e refl)
+same-true (Neg p) (Neg q) e = ap Neg (eqb-true p q e)
 
 pub same-refl : (x : Literal) → same x x ≡ true
-same-refl (pos p) = eq-eqb p p refl
-same-refl (neg p) = eq-eqb p p refl
+same-refl (Pos p) = eq-eqb p p refl
+same-refl (Neg p) = eq-eqb p p refl
 
 pub same-false : (x y : Literal) → same x y ≡ false → x ≢ y
 same-false x y e q = true-not-false (rw q (same-refl y)) e
@@ -45,10 +47,10 @@ pub literal-cases : (x y : Literal) → (x ≡ y) ⊎ (x ≢ y)
 literal-cases x y = ⊎-elim (λ e. inl (same-true x y e)) (λ e. inr (same-false x y e)) (bool-cases (same x y))
 
 pub of-variable : (x y : Literal) → var x ≡ var y → (x ≡ y) ⊎ (x ≡ opposite y)
-of-variable (pos p) (pos q) e = inl (ap pos e)
-of-variable (pos p) (neg q) e = inr (ap pos e)
-of-variable (neg p) (pos q) e = inr (ap neg e)
-of-variable (neg p) (neg q) e = inl (ap neg e)
+of-variable (Pos p) (Pos q) e = inl (ap Pos e)
+of-variable (Pos p) (Neg q) e = inr (ap Pos e)
+of-variable (Neg p) (Pos q) e = inr (ap Neg e)
+of-variable (Neg p) (Neg q) e = inl (ap Neg e)
 
 -- the three ways in which two literals can stand to each other
 pub relation : (x y : Literal) → (x ≡ y) ⊎ ((x ≡ opposite y) ⊎ (var x ≢ var y))

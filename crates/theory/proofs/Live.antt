@@ -13,7 +13,9 @@ use borrow.Author.Tests.{eqb-false, not-true}
 use Rattle.general.specs.Booleans.{true-not-false}
 use Rattle.general.specs.Lists.{mem-map, map-mem}
 use Rattle.general.specs.Search.{Finds, find-finds}
-use Rattle.literal.specs.Literal.{Literal, pos, var, opposite}
+use Rattle.literal.specs.declared.Literal.{Literal}
+use Rattle.literal.specs.declared.Literal.the-variants.{Pos}
+use Rattle.literal.specs.Literal.{var, opposite}
 use Rattle.theory.specs.Formula.{Clause, Formula, Within}
 use Rattle.theory.specs.Order.{IsLeast}
 use Rattle.theory.specs.State.{State, standing, WellFormed}
@@ -102,7 +104,7 @@ pub live-positive : {f : Formula} {s : State} {p : ℕ} → InLive f s p → 0 <
 live-positive h = rw (h .variable) (h .lives .opened (h .literal) (h .standing-in))
 
 module _ {n : ℕ} {f : Formula} {s : State} (w : WellFormed n s) (within : Within n f) {p : ℕ} (h : InLive f s p) where
-  pub live-root : s p ≡ pos p
+  pub live-root : s p ≡ Pos p
   live-root = rw (h .variable) (fixed-pos s (h .literal) (standing-fixed within w (h .clause) (h .literal) (h .standing-in)))
 
   pub live-inside : p ≤ n

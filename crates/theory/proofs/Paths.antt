@@ -4,7 +4,8 @@ use mathlib.Core.Option.{Option, none, some, Option·map}
 use Prim.Native.Nat.{ℕ, zero, suc, _<_, _≤_}
 use native.Mathlib.Omega.{arith}
 use lib.ListN.{length}
-use Rattle.literal.specs.Literal.{Literal, pos}
+use Rattle.literal.specs.declared.Literal.{Literal}
+use Rattle.literal.specs.declared.Literal.the-variants.{Pos}
 use Rattle.theory.specs.Formula.{Formula, Choice, Within}
 use Rattle.theory.specs.Order.{_≼_}
 use Rattle.theory.specs.Search.{decide, treeOf}
@@ -28,7 +29,7 @@ module _ {A : Type 0} where
 
   second-path : {S : Type 0} (walk : S → Run A) (p : ℕ) (r : S) (k i j m : ℕ) → i < m → j < m → (o : Option (Found A)) →
       PathWithin i o → PathWithin j (walk r .found) → PathWithin m (second walk p r k o .found)
-  second-path walk p r k i j m a b none h g = path-through (pos p) j m b (walk r .found) g
+  second-path walk p r k i j m a b none h g = path-through (Pos p) j m b (walk r .found) g
   second-path walk p r k i j m a b (some c) h g = omega arith
 
 module _ {S A : Type 0} (Good : S → Type 0) (left : S → ℕ) (Sol : S → A → Type 0) (Le : A → A → Type 0) (decide : S → Decision S A)

@@ -5,11 +5,15 @@ use mathlib.Core.Option.{Option, none, some}
 use Prim.Native.Nat.{ℕ, zero, suc, _+_, _<_, _≤_}
 use native.Mathlib.Omega.{arith}
 use native.Mathlib.Nat.{le-refl}
-use Rattle.literal.specs.Literal.{Literal, pos, var}
+use Rattle.literal.specs.declared.Literal.{Literal}
+use Rattle.literal.specs.declared.Literal.the-variants.{Pos}
+use Rattle.literal.specs.Literal.{var}
 use Rattle.theory.specs.Formula.{Formula, Within}
 use Rattle.theory.specs.State.{State, initial, assign, opens, WellFormed}
-use Rattle.theory.specs.Rules.{Step, deadEnd, becomes}
-use Rattle.theory.specs.Propagation.{Asked, step, Settled, dead, rest, act, follow, propagate}
+use Rattle.theory.specs.declared.Step.{Step}
+use Rattle.theory.specs.declared.Step.the-variants.{DeadEnd, Becomes}
+use Rattle.theory.specs.declared.Asked.{Asked}
+use Rattle.theory.specs.Propagation.{step, Settled, dead, rest, act, follow, propagate}
 use Rattle.theory.proofs.States.{Based, well-based, Valid, assign-well, Refines, refines-refl, refines-trans, refines-assign, assign-refines, refines-antisym, opens-assign}
 use Rattle.theory.proofs.Asks.{Asks, Dies, Allowed, valid-step, open-step, step-allowed, step-rests}
 use Rattle.theory.proofs.Forced.{forced, no-dead-end}
@@ -69,8 +73,8 @@ module _ {n : ℕ} {f : Formula} (within : Within n f) where
       }
 
       acts : (t : Step) → Allowed f s t → ((u : State) → WellFormed n u → opens u n < k → Ends n f u (propagate k f u)) → Ends n f s (act (propagate k f) s t)
-      acts deadEnd d ih = dies-alone d
-      acts (becomes x t) a ih = back x t a (propagate k f (assign x t s)) (ih (assign x t s) (asked-well w a) (omega (arith, asked-closes w a)))
+      acts DeadEnd d ih = dies-alone d
+      acts (Becomes x t) a ih = back x t a (propagate k f (assign x t s)) (ih (assign x t s) (asked-well w a) (omega (arith, asked-closes w a)))
 
       go : (o : Option Asked) → step f s ≡ o → ((u : State) → WellFormed n u → opens u n < k → Ends n f u (propagate k f u)) → Ends n f s (follow (propagate k f) s o)
       go none e ih = record { well = w; rests = e; refines = refines-refl w; coarsest = λ v k q. q; fewer = le-refl _ }
@@ -85,8 +89,8 @@ module _ {n : ℕ} {f : Formula} (within : Within n f) where
     where
       acts : (t : Step) → Allowed f s t → ((u : State) → WellFormed n u → opens u n < k → opens u n < j → propagate k f u ≡ propagate j f u) →
           act (propagate k f) s t ≡ act (propagate j f) s t
-      acts deadEnd d ih = refl
-      acts (becomes x t) a ih = ih (assign x t s) (asked-well w a) (omega (arith, asked-closes w a)) (omega (arith, asked-closes w a))
+      acts DeadEnd d ih = refl
+      acts (Becomes x t) a ih = ih (assign x t s) (asked-well w a) (omega (arith, asked-closes w a)) (omega (arith, asked-closes w a))
 
       go : (o : Option Asked) → step f s ≡ o → ((u : State) → WellFormed n u → opens u n < k → opens u n < j → propagate k f u ≡ propagate j f u) →
           follow (propagate k f) s o ≡ follow (propagate j f) s o

@@ -10,10 +10,13 @@ use native.Mathlib.Nat.{zero-add}
 use lib.ListN.{replicate}
 use Rattle.general.specs.Booleans.{bit}
 use Rattle.general.specs.Lists.{map-mem}
-use Rattle.literal.specs.Literal.{Literal, pos, neg, TRUE, FALSE, opposite}
+use Rattle.literal.specs.declared.Literal.{Literal}
+use Rattle.literal.specs.declared.Literal.the-variants.{Pos, Neg}
+use Rattle.literal.specs.Literal.{TRUE, FALSE, opposite}
 use Rattle.theory.specs.Formula.{Clause, Formula, Assignment, holds, trueCount, Satisfies, Within}
 use Rattle.theory.specs.State.{State, value, stand, standing, opens, Agrees, WellFormed}
-use Rattle.theory.specs.Rules.{Step, occurs, rule1, rule2, rule3, rule4, rule5, rule6, rule7, rule8}
+use Rattle.theory.specs.declared.Step.{Step}
+use Rattle.theory.specs.Rules.{occurs, rule1, rule2, rule3, rule4, rule5, rule6, rule7, rule8}
 use Rattle.theory.specs.Propagation.{firstClause, firstPair, ask, step, Settled, dead, rest, propagate}
 use Rattle.general.specs.Search.{find}
 use Rattle.theory.proofs.States.{Based, Refines, refines-trans}
@@ -34,8 +37,8 @@ decided-opposite true = refl
 decided-opposite false = refl
 
 value-decided : (a : Assignment) (l : Literal) → value (decidedBy a) l ≡ cond (holds a l) TRUE FALSE
-value-decided a (pos p) = refl
-value-decided a (neg p) = sym (decided-opposite (a p))
+value-decided a (Pos p) = refl
+value-decided a (Neg p) = sym (decided-opposite (a p))
 
 decided-injective : (b c : Bool) → cond b TRUE FALSE ≡ cond c TRUE FALSE → b ≡ c
 decided-injective true true e = refl

@@ -6,7 +6,9 @@ use mathlib.Core.List.{List, [], _∷_, List·Memᴰ, List·Memᴰ·head, List·
 use Prim.Native.Nat.{ℕ, zero, suc, _+_, _-_, _<_, _≤_}
 use native.Mathlib.Omega.{arith}
 use lib.ListN.{length}
-use Rattle.literal.specs.Literal.{Literal, pos, neg, TRUE, FALSE, var, opposite}
+use Rattle.literal.specs.declared.Literal.{Literal}
+use Rattle.literal.specs.declared.Literal.the-variants.{Pos, Neg}
+use Rattle.literal.specs.Literal.{TRUE, FALSE, var, opposite}
 use Rattle.theory.specs.Formula.{Clause, Formula, Choice, Within}
 use Rattle.theory.specs.Order.{Least, IsLeast}
 use Rattle.theory.specs.State.{State, initial, value, replace, assign, standing, opens, WellFormed}
@@ -88,19 +90,19 @@ module _ {n : ℕ} {f : Formula} (within : Within n f) where
   module _ (u : State) (w : WellFormed n u) where
     -- a side of the branch on p settles to a state with at least one open variable fewer
     module _ (p : ℕ) (h : InLive f u p) (t : Literal) (z : var t ≡ 0) (ft : Fixed u t) where
-      side-valid : Valid n u (pos p) t
+      side-valid : Valid n u (Pos p) t
       side-valid = record { fixed-x = live-root w within h; fixed-t = ft; lower = omega (arith, live-positive h); inside = live-inside w within h }
 
-      pub side-well : WellFormed n (assign (pos p) t u)
+      pub side-well : WellFormed n (assign (Pos p) t u)
       side-well = assign-well w side-valid
 
-      side-closes : opens (assign (pos p) t u) n + 1 ≡ opens u n
+      side-closes : opens (assign (Pos p) t u) n + 1 ≡ opens u n
       side-closes = opens-assign w side-valid n (live-positive h) (live-inside w within h)
 
-      side-fewer : Leaves (assign (pos p) t u) (opens u n - 1)
-      side-fewer = go (settle n f (assign (pos p) t u)) (settle-ends (assign (pos p) t u) side-well)
+      side-fewer : Leaves (assign (Pos p) t u) (opens u n - 1)
+      side-fewer = go (settle n f (assign (Pos p) t u)) (settle-ends (assign (Pos p) t u) side-well)
         where
-          go : (o : Settled) → Ends n f (assign (pos p) t u) o → AtMost (opens u n - 1) o
+          go : (o : Settled) → Ends n f (assign (Pos p) t u) o → AtMost (opens u n - 1) o
           go dead e = tt
           go (rest v) e = omega (arith, e .fewer, side-closes)
 
@@ -108,7 +110,7 @@ module _ {n : ℕ} {f : Formula} (within : Within n f) where
     record Closes (x y z : Literal) : Type 0 where
       state : State
       fewer : opens state n + 3 ≡ opens u n
-      kept : (q : ℕ) → u q ≡ pos q → q ≢ var x → q ≢ var y → q ≢ var z → state q ≡ pos q
+      kept : (q : ℕ) → u q ≡ Pos q → q ≢ var x → q ≢ var y → q ≢ var z → state q ≡ Pos q
 
     closes : (x y z : Literal) → Valid n u x FALSE → Valid n u y FALSE → Valid n u z FALSE → var y ≢ var x → var z ≢ var x → var z ≢ var y → Closes x y z
     closes x y z vx vy vz yx zx zy = record {
@@ -121,9 +123,9 @@ module _ {n : ℕ} {f : Formula} (within : Within n f) where
       );
       kept = λ q e a b c.
           ap (λ (l : Literal). replace z FALSE (replace y FALSE (replace x FALSE l))) e ∙
-          ap (λ (l : Literal). replace z FALSE (replace y FALSE l)) (replace-other x FALSE (pos q) a) ∙
-          ap (replace z FALSE) (replace-other y FALSE (pos q) b) ∙
-          replace-other z FALSE (pos q) c;
+          ap (λ (l : Literal). replace z FALSE (replace y FALSE l)) (replace-other x FALSE (Pos q) a) ∙
+          ap (replace z FALSE) (replace-other y FALSE (Pos q) b) ∙
+          replace-other z FALSE (Pos q) c;
     }
       where
         -- a step on another variable leaves a step valid
@@ -164,22 +166,22 @@ module _ {n : ℕ} {f : Formula} (within : Within n f) where
           (alive-differ (h .lives) (b .second) (b .third) (b .second-in) (b .third-in) (b .apart))
 
       -- a literal with a constant for its value is not open
-      shut : (v : State) (l k : Literal) → 0 < var l → value v l ≡ k → var k ≡ 0 → (q : ℕ) → v q ≡ pos q → q ≢ var l
-      shut v (pos r) k o e i q g z = omega (arith, ap var (sym (rw z at g) ∙ e))
-      shut v (neg r) k o e i q g z = omega (arith, ap var (sym (ap opposite (rw z at g)) ∙ e))
+      shut : (v : State) (l k : Literal) → 0 < var l → value v l ≡ k → var k ≡ 0 → (q : ℕ) → v q ≡ Pos q → q ≢ var l
+      shut v (Pos r) k o e i q g z = omega (arith, ap var (sym (rw z at g) ∙ e))
+      shut v (Neg r) k o e i q g z = omega (arith, ap var (sym (ap opposite (rw z at g)) ∙ e))
 
       -- the side that makes the live clause's literal true
-      module _ (t : Literal) (z : var t ≡ 0) (ft : Fixed u t) (true-side : value (assign (pos p) t u) (h .literal) ≡ TRUE) where
-        side-three-fewer : Leaves (assign (pos p) t u) (opens u n - 3)
-        side-three-fewer = go (settle n f (assign (pos p) t u)) (settle-ends (assign (pos p) t u) (side-well p h t z ft))
+      module _ (t : Literal) (z : var t ≡ 0) (ft : Fixed u t) (true-side : value (assign (Pos p) t u) (h .literal) ≡ TRUE) where
+        side-three-fewer : Leaves (assign (Pos p) t u) (opens u n - 3)
+        side-three-fewer = go (settle n f (assign (Pos p) t u)) (settle-ends (assign (Pos p) t u) (side-well p h t z ft))
           where
             three : Closes (h .literal) (b .second) (b .third)
             three = live-closes
 
-            go : (o : Settled) → Ends n f (assign (pos p) t u) o → AtMost (opens u n - 3) o
+            go : (o : Settled) → Ends n f (assign (Pos p) t u) o → AtMost (opens u n - 3) o
             go dead e = tt
             go (rest v) e =
-                let r : Refines u v = refines-trans (refines-assign (pos p) t w) (e .refines) in
+                let r : Refines u v = refines-trans (refines-assign (Pos p) t w) (e .refines) in
                 let base : Based v = well-based (e .well) in
                 let k : Closed (standing v d) = rw (standing-refines r base (h .clause)) (rests-closed f v (e .rests) (h .clause) (h .member)) in
                 let tx : value v (h .literal) ≡ TRUE = sym (refines-value (e .refines) (h .literal)) ∙ ap (value v) true-side ∙ base-true base in
@@ -195,7 +197,7 @@ module _ {n : ℕ} {f : Formula} (within : Within n f) where
                       (shut v (b .third) FALSE (h .lives .opened (b .third) (b .third-in)) fz refl q g)),
                 )
 
-      narrow-at : (m : ℕ) → opens u n ≤ m → Narrower (WellFormed n) Leaves m (assign (pos p) FALSE u) (assign (pos p) TRUE u)
+      narrow-at : (m : ℕ) → opens u n ≤ m → Narrower (WellFormed n) Leaves m (assign (Pos p) FALSE u) (assign (Pos p) TRUE u)
       narrow-at m l = go (h .literal) refl
         where
           fixed-false : Fixed u FALSE
@@ -208,12 +210,12 @@ module _ {n : ℕ} {f : Formula} (within : Within n f) where
           three = live-closes .fewer
 
           -- what the step makes of its own variable
-          stepped : (t : Literal) → value (assign (pos p) t u) (pos p) ≡ t
-          stepped t = ap (replace (pos p) t) (live-root w within h) ∙ replace-same (pos p) t
+          stepped : (t : Literal) → value (assign (Pos p) t u) (Pos p) ≡ t
+          stepped t = ap (replace (Pos p) t) (live-root w within h) ∙ replace-same (Pos p) t
 
-          go : (x : Literal) → h .literal ≡ x → Narrower (WellFormed n) Leaves m (assign (pos p) FALSE u) (assign (pos p) TRUE u)
-          go (pos q) e =
-              let is : h .literal ≡ pos p = e ∙ ap pos (sym (h .variable ∙ ap var e)) in
+          go : (x : Literal) → h .literal ≡ x → Narrower (WellFormed n) Leaves m (assign (Pos p) FALSE u) (assign (Pos p) TRUE u)
+          go (Pos q) e =
+              let is : h .literal ≡ Pos p = e ∙ ap Pos (sym (h .variable ∙ ap var e)) in
               record {
                 good-left = side-well p h FALSE refl fixed-false;
                 good-right = side-well p h TRUE refl fixed-true;
@@ -223,8 +225,8 @@ module _ {n : ℕ} {f : Formula} (within : Within n f) where
                 fits-right = side-three-fewer TRUE refl fixed-true (rw is (stepped TRUE));
                 fewer = inl (omega (arith, three), omega (arith, three));
               }
-          go (neg q) e =
-              let is : h .literal ≡ neg p = e ∙ ap neg (sym (h .variable ∙ ap var e)) in
+          go (Neg q) e =
+              let is : h .literal ≡ Neg p = e ∙ ap Neg (sym (h .variable ∙ ap var e)) in
               record {
                 good-left = side-well p h FALSE refl fixed-false;
                 good-right = side-well p h TRUE refl fixed-true;

@@ -6,7 +6,9 @@ use Prim.Native.Nat.{ℕ, zero, suc, _+_, _<_, _≤_}
 use native.Mathlib.Omega.{arith}
 use native.Mathlib.Decide.{ℕ-discrete, decLt}
 use Rattle.general.specs.Booleans.{bit}
-use Rattle.literal.specs.Literal.{Literal, pos, neg, TRUE, FALSE, var, opposite, same}
+use Rattle.literal.specs.declared.Literal.{Literal}
+use Rattle.literal.specs.declared.Literal.the-variants.{Pos, Neg}
+use Rattle.literal.specs.Literal.{TRUE, FALSE, var, opposite, same}
 use Rattle.theory.specs.State.{State, initial, value, replace, assign, opens, WellFormed}
 use Rattle.theory.proofs.Literals.{opposite-opposite, var-opposite, opposite-ne, same-true, same-refl, same-ne, literal-cases, of-variable, relation}
 
@@ -38,12 +40,12 @@ replace-opposite x t = replace-ind (λ l m. replace x t (opposite l) ≡ opposit
 -- values ---------------------------------------------------------------------------------------------------------
 
 pub value-opposite : (s : State) (l : Literal) → value s (opposite l) ≡ opposite (value s l)
-value-opposite s (pos p) = refl
-value-opposite s (neg p) = sym (opposite-opposite (s p))
+value-opposite s (Pos p) = refl
+value-opposite s (Neg p) = sym (opposite-opposite (s p))
 
 pub value-assign : (s : State) (x t l : Literal) → value (assign x t s) l ≡ replace x t (value s l)
-value-assign s x t (pos p) = refl
-value-assign s x t (neg p) = sym (replace-opposite x t (s p))
+value-assign s x t (Pos p) = refl
+value-assign s x t (Neg p) = sym (replace-opposite x t (s p))
 
 -- a literal that stands for itself
 abbrev pub Fixed : State → Literal → Type 0
@@ -52,9 +54,9 @@ Fixed s l = value s l ≡ l
 pub fixed-opposite : (s : State) (l : Literal) → Fixed s l → Fixed s (opposite l)
 fixed-opposite s l e = value-opposite s l ∙ ap opposite e
 
-pub fixed-pos : (s : State) (l : Literal) → Fixed s l → s (var l) ≡ pos (var l)
-fixed-pos s (pos p) e = e
-fixed-pos s (neg p) e = sym (opposite-opposite (s p)) ∙ ap opposite e
+pub fixed-pos : (s : State) (l : Literal) → Fixed s l → s (var l) ≡ Pos (var l)
+fixed-pos s (Pos p) e = e
+fixed-pos s (Neg p) e = sym (opposite-opposite (s p)) ∙ ap opposite e
 
 -- the constant is fixed
 pub record Based (s : State) : Type 0 where
@@ -62,12 +64,12 @@ pub record Based (s : State) : Type 0 where
 
 module _ {n : ℕ} {s : State} (w : WellFormed n s) where
   pub value-fixed : (l : Literal) → Fixed s (value s l)
-  value-fixed (pos p) = w .fixed p
-  value-fixed (neg p) = fixed-opposite s (s p) (w .fixed p)
+  value-fixed (Pos p) = w .fixed p
+  value-fixed (Neg p) = fixed-opposite s (s p) (w .fixed p)
 
   pub value-low : (l : Literal) → var (value s l) ≤ var l
-  value-low (pos p) = w .low p
-  value-low (neg p) = rw (var-opposite (s p)) (w .low p)
+  value-low (Pos p) = w .low p
+  value-low (Neg p) = rw (var-opposite (s p)) (w .low p)
 
   pub well-based : Based s
   well-based = ⊎-elim (λ e. record { base = e }) (λ (e : s 0 ≡ FALSE). absurd (no-flip e)) (of-variable (s 0) TRUE (omega (arith, w .low 0)))
@@ -107,7 +109,7 @@ module _ {n : ℕ} {s : State} {x t : Literal} (w : WellFormed n s) (v : Valid n
   assign-well = record {
     low = λ p. omega (arith, replaced-low (s p), w .low p);
     fixed = λ p. value-assign s x t (replace x t (s p)) ∙ replaced-fixed (s p) (w .fixed p);
-    beyond = λ p h. rw (w .beyond p h) (replace-other x t (pos p) (λ e. omega (arith, v .inside)));
+    beyond = λ p h. rw (w .beyond p h) (replace-other x t (Pos p) (λ e. omega (arith, v .inside)));
   }
 
 -- refinement: u says at least what s says ------------------------------------------------------------------------
@@ -116,8 +118,8 @@ pub record Refines (s u : State) : Type 0 where
   pub at : (p : ℕ) → value u (s p) ≡ u p
 
 pub refines-value : {s u : State} → Refines s u → (l : Literal) → value u (value s l) ≡ value u l
-refines-value r (pos p) = r .at p
-refines-value {s} {u} r (neg p) = value-opposite u (s p) ∙ ap opposite (r .at p)
+refines-value r (Pos p) = r .at p
+refines-value {s} {u} r (Neg p) = value-opposite u (s p) ∙ ap opposite (r .at p)
 
 pub refines-refl : {n : ℕ} {s : State} → WellFormed n s → Refines s s
 refines-refl w = record { at = w .fixed }
@@ -161,21 +163,21 @@ module _ {n m : ℕ} {s u : State} (w : WellFormed n s) (z : WellFormed m u) (a 
 
 -- p stands for itself
 abbrev pub isRoot : State → ℕ → Bool
-isRoot s p = same (s p) (pos p)
+isRoot s p = same (s p) (Pos p)
 
-pub root-fixed : (s : State) (p : ℕ) → isRoot s p ≡ true → s p ≡ pos p
-root-fixed s p e = same-true (s p) (pos p) e
+pub root-fixed : (s : State) (p : ℕ) → isRoot s p ≡ true → s p ≡ Pos p
+root-fixed s p e = same-true (s p) (Pos p) e
 
-pub fixed-root : (s : State) (p : ℕ) → s p ≡ pos p → isRoot s p ≡ true
-fixed-root s p e = rw e (same-refl (pos p))
+pub fixed-root : (s : State) (p : ℕ) → s p ≡ Pos p → isRoot s p ≡ true
+fixed-root s p e = rw e (same-refl (Pos p))
 
 -- a root of a refinement was a root before
-pub refines-root : {n m : ℕ} {s u : State} → WellFormed n s → WellFormed m u → Refines s u → (p : ℕ) → u p ≡ pos p → s p ≡ pos p
+pub refines-root : {n m : ℕ} {s u : State} → WellFormed n s → WellFormed m u → Refines s u → (p : ℕ) → u p ≡ Pos p → s p ≡ Pos p
 refines-root {s = s} {u = u} w z r p e =
     let h : p ≤ var (s p) = rw (r .at p, e) at (value-low z (s p)) in
-    ⊎-elim (λ q. q) (λ (q : s p ≡ neg p). absurd (opposite-ne (u p) (rw q at (r .at p)))) (of-variable (s p) (pos p) (omega (arith, w .low p)))
+    ⊎-elim (λ q. q) (λ (q : s p ≡ Neg p). absurd (opposite-ne (u p) (rw q at (r .at p)))) (of-variable (s p) (Pos p) (omega (arith, w .low p)))
 
-pub opens-le : (s u : State) (n : ℕ) → ((p : ℕ) → u p ≡ pos p → s p ≡ pos p) → opens u n ≤ opens s n
+pub opens-le : (s u : State) (n : ℕ) → ((p : ℕ) → u p ≡ Pos p → s p ≡ Pos p) → opens u n ≤ opens s n
 unfolding opens
 opens-le s u zero h = omega arith
 opens-le s u (suc n) h = go (isRoot u (suc n)) refl (opens-le s u n h)
@@ -196,14 +198,14 @@ opens-bound s (suc n) = go (isRoot s (suc n)) (opens-bound s n)
 module _ {n : ℕ} {s : State} {x t : Literal} (w : WellFormed n s) (v : Valid n s x t) where
   assign-other : (p : ℕ) → p ≢ var x → isRoot (assign x t s) p ≡ isRoot s p
   assign-other p h = ⊎-elim
-      (λ (e : s p ≡ pos p). rw (e, replace-other x t (pos p) h))
-      (λ (e : s p ≢ pos p). same-ne _ _ (λ q. e (refines-root w (assign-well w v) (refines-assign x t w) p q)) ∙ sym (same-ne _ _ e))
-      (literal-cases (s p) (pos p))
+      (λ (e : s p ≡ Pos p). rw (e, replace-other x t (Pos p) h))
+      (λ (e : s p ≢ Pos p). same-ne _ _ (λ q. e (refines-root w (assign-well w v) (refines-assign x t w) p q)) ∙ sym (same-ne _ _ e))
+      (literal-cases (s p) (Pos p))
 
   assign-self : isRoot (assign x t s) (var x) ≡ false
-  assign-self = same-ne (assign x t s (var x)) (pos (var x)) (λ e. omega (arith, ap var e, lowered (s (var x)) (fixed-pos s x (v .fixed-x))))
+  assign-self = same-ne (assign x t s (var x)) (Pos (var x)) (λ e. omega (arith, ap var e, lowered (s (var x)) (fixed-pos s x (v .fixed-x))))
     where
-      lowered : (l : Literal) → l ≡ pos (var x) → var (replace x t l) < var x
+      lowered : (l : Literal) → l ≡ Pos (var x) → var (replace x t l) < var x
       lowered l e = replace-ind (λ k m. var k ≡ var x → var m < var x) x t (λ q. v .lower) (λ q. omega (arith, var-opposite t, v .lower))
           (λ k h q. absurd (h q)) l (ap var e)
 

@@ -8,7 +8,9 @@ use native.Mathlib.Omega.{arith}
 use lib.Dec.{ltb}
 use lib.IntN.{ℤ, negsuc, natAbs, pos as posℤ}
 use borrow.Author.Tests.{ltb-false}
-use Rattle.literal.specs.Literal.{Literal, pos, neg, var, maxVariables, maxClauses, maxLiterals}
+use Rattle.literal.specs.declared.Literal.{Literal}
+use Rattle.literal.specs.declared.Literal.the-variants.{Pos, Neg}
+use Rattle.literal.specs.Literal.{var, maxVariables, maxClauses, maxLiterals}
 use Rattle.receipt.specs.declared.Checked.{Checked}
 use Rattle.receipt.specs.declared.Refusal.{Refusal}
 use Rattle.receipt.specs.declared.Checked.the-variants.{Passed, Refused}
@@ -68,9 +70,9 @@ clauses-range n (posℤ zero ∷ t) h c l mc ml = ⊎-elim
     (λ k. clauses-range n t (λ e m. h e (List·Memᴰ·tail m)) c l k ml)
     (List·Memᴰ·cases-cons mc)
 clauses-range n (posℤ (suc p) ∷ t) h c l mc ml =
-    push-range n (pos (suc p)) (omega arith) (h (posℤ (suc p)) (List·Memᴰ·head refl)) (clauses t) (clauses-range n t (λ e m. h e (List·Memᴰ·tail m))) c l mc ml
+    push-range n (Pos (suc p)) (omega arith) (h (posℤ (suc p)) (List·Memᴰ·head refl)) (clauses t) (clauses-range n t (λ e m. h e (List·Memᴰ·tail m))) c l mc ml
 clauses-range n (negsuc p ∷ t) h c l mc ml =
-    push-range n (neg (suc p)) (omega arith) (h (negsuc p) (List·Memᴰ·head refl)) (clauses t) (clauses-range n t (λ e m. h e (List·Memᴰ·tail m))) c l mc ml
+    push-range n (Neg (suc p)) (omega arith) (h (negsuc p) (List·Memᴰ·head refl)) (clauses t) (clauses-range n t (λ e m. h e (List·Memᴰ·tail m))) c l mc ml
 
 pub accepted-within : (n : ℕ) (t : List ℤ) → Accepted n t → Within n (clauses t)
 accepted-within n t e = record { low = λ c l mc ml. range c l mc ml .0; high = λ c l mc ml. range c l mc ml .1 }

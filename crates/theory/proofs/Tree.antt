@@ -4,7 +4,7 @@ use mathlib.Core.Logic.{_⊎_, ⊎-elim, _↔_}
 use mathlib.Core.Option.{Option, none, some, Option·map}
 use Prim.Native.Nat.{ℕ, zero, suc, _+_, _≤_, _<_}
 use native.Mathlib.Omega.{arith}
-use Rattle.literal.specs.Literal.{pos}
+use Rattle.literal.specs.declared.Literal.the-variants.{Pos}
 use Rattle.theory.specs.Bound.{N}
 use Rattle.theory.specs.Order.{Least, IsLeast}
 use Rattle.theory.specs.Tree.{Decision, dead, done, branch, Found, Run, through, second, visit, tree}
@@ -61,7 +61,7 @@ module _ {S A : Type 0} (Good : S → Type 0) (left : S → ℕ) (Sol : S → A 
       IsLeast Le (Sol l) (choiceFound o) → IsLeast Le (Sol r) (choiceFound (walk r .found)) → IsLeast Le (Sol s) (choiceFound (second walk p r k o .found))
   second-least walk p {s} {l} {r} k none w none-left least-right = go (walk r .found) least-right
     where
-      go : (o : Option (Found A)) → IsLeast Le (Sol r) (choiceFound o) → IsLeast Le (Sol s) (choiceFound (Option·map (through (pos p)) o))
+      go : (o : Option (Found A)) → IsLeast Le (Sol r) (choiceFound o) → IsLeast Le (Sol s) (choiceFound (Option·map (through (Pos p)) o))
       go none f = λ a h. ⊎-elim (none-left a) (f a) (w .into a h)
       go (some b) f = record {
         member = w .from-right (b .choice) (f .member);

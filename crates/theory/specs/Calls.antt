@@ -6,8 +6,9 @@ use lib.Dec.{eqb, ltb}
 use lib.IntN.{ℤ, negsuc, natAbs, pos as posℤ}
 use lib.ListN.{length, replicate, take, drop}
 use Rattle.general.specs.Lists.{upTo}
-use Rattle.literal.specs.Literal.{Literal, pos, neg, maxClauses, maxLiterals}
-use Rattle.receipt.specs.declared.Fault.{Fault}
+use Rattle.literal.specs.declared.Literal.{Literal}
+use Rattle.literal.specs.declared.Literal.the-variants.{Pos, Neg}
+use Rattle.literal.specs.Literal.{maxClauses, maxLiterals, maxTable}
 use Rattle.receipt.specs.declared.Fault.the-variants.{TooManyClauses, TooManyLiterals, UnknownVariable, PlanShort, TrailShort, HeadsShort, ReceiptShort, UsedLengthWrong, StateShort, TableShort}
 use Rattle.receipt.specs.declared.Refusal.{Refusal}
 use Rattle.receipt.specs.declared.Checked.{Checked}
@@ -23,7 +24,10 @@ use Rattle.receipt.specs.declared.Adding.{Adding}
 use Rattle.receipt.specs.declared.Adding.the-variants as adding
 use Rattle.receipt.specs.declared.Reading.{Reading}
 use Rattle.receipt.specs.declared.Reading.the-variants as reading
-use Rattle.receipt.specs.Receipt.{Receipt, receipt, refusal, searchingReceipt}
+use Rattle.receipt.specs.declared.Receipt.{Receipt}
+use Rattle.receipt.specs.declared.Outcome.the-variants as outcome
+use Rattle.receipt.specs.Receipt.{refusal, refusedReceipt}
+use Rattle.receipt.specs.Answers.{searchingReceipt}
 use Rattle.theory.specs.Formula.{Formula, Choice, clauses}
 use Rattle.theory.specs.State.{State, initial}
 use Rattle.theory.specs.Table.{zeros, nonzeros, refused, check}
@@ -37,17 +41,14 @@ use Rattle.theory.specs.Strip as strip
 abbrev pub over : {A : Type 0} → ℕ → List A → List A → List A
 over n new old = new ++ drop n old
 
-abbrev pub short : Fault → Refusal
-short why = record { fault = why; place = 0 }
-
 -- Settle ----------------------------------------------------------------------------------------------------------
 
 -- "257 taken, -257 left out, +p open, +r or -r tied to r"
 abbrev pub stateEntry : Literal → ℤ
-stateEntry (pos zero) = posℤ 257
-stateEntry (neg zero) = negsuc 256
-stateEntry (pos (suc r)) = posℤ (suc r)
-stateEntry (neg (suc r)) = negsuc r
+stateEntry (Pos zero) = posℤ 257
+stateEntry (Neg zero) = negsuc 256
+stateEntry (Pos (suc r)) = posℤ (suc r)
+stateEntry (Neg (suc r)) = negsuc r
 
 pub record SettleCall : Type 0 where
   pub answer : Settling
@@ -61,7 +62,7 @@ settledCall n (rest s) l = record { answer = settling.Settled; list = over n (up
 abbrev pub settleChecked : Checked → ℕ → List ℤ → List ℤ → SettleCall
 settleChecked (Refused r) n t l = record { answer = settling.Refused r; list = l }
 settleChecked Passed n t l =
-    cond (ltb (length l) n) (record { answer = settling.Refused (short StateShort); list = l }) (settledCall n (settle n (clauses t) initial) l)
+    cond (ltb (length l) n) (record { answer = settling.Refused (refusal StateShort 0); list = l }) (settledCall n (settle n (clauses t) initial) l)
 
 -- "Tables: 1, 2, 3, 4, 5, then .. 14 (settle)"
 unfoldable pub settleCall : ℕ → List ℤ → List ℤ → SettleCall
@@ -75,9 +76,9 @@ pub record SearchCall : Type 0 where
   pub trail : List ℤ
 
 abbrev pub searchAnswer : ℕ → Outcome Choice → Searching
-searchAnswer k (laidOut a) = searching.LaidOut k
-searchAnswer k noLayout = searching.NoLayout k
-searchAnswer k stopped = searching.Stopped k
+searchAnswer k (laidOut a) = searching.Ended outcome.LaidOut k
+searchAnswer k noLayout = searching.Ended outcome.NoLayout k
+searchAnswer k stopped = searching.Ended outcome.Stopped k
 
 abbrev pub searchedCall : ℕ → Result Choice → List ℕ → List ℤ → SearchCall
 searchedCall n r plan trail =
@@ -89,8 +90,8 @@ searchRefused r plan trail = record { answer = searching.Refused r; plan = plan;
 abbrev pub searchChecked : Checked → ℕ → List ℤ → ℕ → List ℕ → List ℤ → SearchCall
 searchChecked (Refused r) n t b plan trail = searchRefused r plan trail
 searchChecked Passed n t b plan trail =
-    cond (ltb (length plan) n) (searchRefused (short PlanShort) plan trail)
-    (cond (ltb (length trail) n) (searchRefused (short TrailShort) plan trail)
+    cond (ltb (length plan) n) (searchRefused (refusal PlanShort 0) plan trail)
+    (cond (ltb (length trail) n) (searchRefused (refusal TrailShort 0) plan trail)
     (searchedCall n (search n t b) plan trail))
 
 -- "Tables: 1, 2, 3, 4, 5, then 6, 7 (search)"
@@ -122,7 +123,7 @@ indexRefused r hs = record { answer = indexing.Refused r; heads = hs }
 abbrev pub indexChecked : Checked → List ℤ → List Head → IndexCall
 indexChecked (Refused r) t hs = indexRefused r hs
 indexChecked Passed t hs =
-    cond (ltb (length hs) (zeros t)) (indexRefused (short HeadsShort) hs)
+    cond (ltb (length hs) (zeros t)) (indexRefused (refusal HeadsShort 0) hs)
     (record { answer = indexing.Indexed; heads = over (zeros t) (headsOf t) hs })
 
 -- "Tables: 1, 2, 3, 4, 5, then .. 8 (index)"
@@ -150,20 +151,20 @@ added u g b = take u b ++ (g ++ (posℤ 0 ∷ drop (u + length g + 1) b))
 abbrev pub addKnown : Checked → ℕ → List ℤ → List ℤ → AddCall
 addKnown (Refused r) u g b = addRefused r b
 addKnown Passed u g b =
-    cond (ltb (length b) (u + length g + 1)) (addRefused (short TableShort) b)
+    cond (ltb (length b) (u + length g + 1)) (addRefused (refusal TableShort 0) b)
     (record { answer = adding.Added (u + length g + 1); buffer = added u g b })
 
 -- "2 and 3 with the group added (each element of the list counts as an entry)"
 abbrev pub addChecked : Checked → ℕ → ℕ → List ℤ → List ℤ → AddCall
 addChecked (Refused r) u n g b = addRefused r b
 addChecked Passed u n g b =
-    cond (ltb maxClauses (zeros (take u b) + 1)) (addRefused (short TooManyClauses) b)
-    (cond (ltb maxLiterals (nonzeros (take u b) + length g)) (addRefused (short TooManyLiterals) b)
+    cond (ltb maxClauses (zeros (take u b) + 1)) (addRefused (refusal TooManyClauses 0) b)
+    (cond (ltb maxLiterals (nonzeros (take u b) + length g)) (addRefused (refusal TooManyLiterals 0) b)
     (addKnown (unknownIn u n g) u g b))
 
 -- "Add: 12, then 1 to 5 on the used part"
 unfoldable pub addCall : ℕ → ℕ → List ℤ → List ℤ → AddCall
-addCall u n g b = cond (ltb (length b) u) (addRefused (short UsedLengthWrong) b) (addChecked (check n (take u b)) u n g b)
+addCall u n g b = cond (ltb (length b) u) (addRefused (refusal UsedLengthWrong 0) b) (addChecked (check n (take u b)) u n g b)
 
 -- Read ------------------------------------------------------------------------------------------------------------
 
@@ -201,9 +202,9 @@ searchedRun n r plan = ran (searchingReceipt (searchAnswer (r .count) (r .outcom
 
 -- "strip refusals except 23, then 6"; "It searches what was read, without a trail"
 abbrev pub runOf : strip.Reading → ℕ → List ℕ → Run
-runOf (stops f) b plan = ran (refusal f) plan
+runOf (stops f) b plan = ran (refusedReceipt f) plan
 runOf (goes r) b plan =
-    cond (ltb (length plan) (r .variables)) (ran (refusal (short PlanShort)) plan) (searchedRun (r .variables) (search (r .variables) (r .table) b) plan)
+    cond (ltb (length plan) (r .variables)) (ran (refusedReceipt (refusal PlanShort 0)) plan) (searchedRun (r .variables) (search (r .variables) (r .table) b) plan)
 
 pub record WindowCall : Type 0 where
   pub number : ℕ
@@ -215,7 +216,7 @@ written r old = record { number = r .receipt .number; plan = r .plan; receipt = 
 
 -- the window's own table has room for every strip within the limits
 abbrev pub windowRoom : ℕ
-windowRoom = 2560
+windowRoom = maxTable
 
 -- "Window: 9, strip refusals except 23, then 6"
 unfoldable pub windowCall : List ℕ → ℕ → List ℕ → List ℕ → WindowCall

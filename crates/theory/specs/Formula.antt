@@ -6,7 +6,9 @@ use Prim.Native.Nat.{ℕ, zero, suc, _+_, _≤_, _<_}
 use lib.ListN.{length, getD}
 use lib.IntN.{ℤ, negsuc, pos as posℤ}
 use Rattle.general.specs.Booleans.{bit}
-use Rattle.literal.specs.Literal.{Literal, pos, neg, var, literalOf}
+use Rattle.literal.specs.declared.Literal.{Literal}
+use Rattle.literal.specs.declared.Literal.the-variants.{Pos, Neg}
+use Rattle.literal.specs.Literal.{var, literalOf}
 
 abbrev pub Clause : Type 0
 Clause = List Literal
@@ -23,8 +25,8 @@ push l (c ∷ f) = (l ∷ c) ∷ f
 unfoldable pub clauses : List ℤ → Formula
 clauses [] = []
 clauses (posℤ zero ∷ t) = [] ∷ clauses t
-clauses (posℤ (suc p) ∷ t) = push (pos (suc p)) (clauses t)
-clauses (negsuc p ∷ t) = push (neg (suc p)) (clauses t)
+clauses (posℤ (suc p) ∷ t) = push (Pos (suc p)) (clauses t)
+clauses (negsuc p ∷ t) = push (Neg (suc p)) (clauses t)
 
 -- a value for each variable, of which variable 0 is the constant
 abbrev pub Assignment : Type 0
@@ -32,8 +34,8 @@ Assignment = ℕ → Bool
 
 -- +p is true where p is taken, -p where it is left out
 abbrev pub holds : Assignment → Literal → Bool
-holds a (pos p) = a p
-holds a (neg p) = not (a p)
+holds a (Pos p) = a p
+holds a (Neg p) = not (a p)
 
 -- how many occurrences are true: "an entry written twice counts twice"
 unfoldable pub trueCount : Assignment → Clause → ℕ

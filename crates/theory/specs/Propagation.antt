@@ -4,17 +4,19 @@ use mathlib.Core.Option.{Option, none, some, Option·map, orElse}
 use Prim.Native.Nat.{ℕ, zero, suc}
 use Rattle.theory.specs.Formula.{Clause, Formula}
 use Rattle.theory.specs.State.{State, standing, assign}
-use Rattle.theory.specs.Rules.{Step, deadEnd, becomes, rule1, rule2, rule3, rule4, rule5, rule6, rule7, rule8}
+use Rattle.theory.specs.declared.Asked.{Asked}
+use Rattle.theory.specs.declared.Step.{Step}
+use Rattle.theory.specs.declared.Step.the-variants.{DeadEnd, Becomes}
+use Rattle.theory.specs.Rules.{rule1, rule2, rule3, rule4, rule5, rule6, rule7, rule8}
 
--- a step, and the number of the clause that asked it; of a pair, of the later one
-pub record Asked : Type 0 where
-  pub clause : ℕ
-  pub step : Step
+-- what clause k asks, "the number of the group" (of a pair, of the later one)
+abbrev pub askedBy : ℕ → Step → Asked
+askedBy k s = record { clause = record { 0 = k }; step = s }
 
 -- the first clause that a rule fits; the first of the list has number k
 unfoldable pub firstClause : (Clause → Option Step) → ℕ → List Clause → Option Asked
 firstClause rule k [] = none
-firstClause rule k (c ∷ g) = orElse (Option·map (λ s. record { clause = k; step = s }) (rule c)) (firstClause rule (suc k) g)
+firstClause rule k (c ∷ g) = orElse (Option·map (askedBy k) (rule c)) (firstClause rule (suc k) g)
 
 -- the first pair that a rule fits
 unfoldable pub firstPair : (Clause → Clause → Option Step) → ℕ → List Clause → Option Asked
@@ -42,8 +44,8 @@ pub data Settled : Type 0 where
   rest : State → Settled
 
 abbrev pub act : (State → Settled) → State → Step → Settled
-act go s deadEnd = dead
-act go s (becomes x t) = go (assign x t s)
+act go s DeadEnd = dead
+act go s (Becomes x t) = go (assign x t s)
 
 abbrev pub follow : (State → Settled) → State → Option Asked → Settled
 follow go s none = rest s

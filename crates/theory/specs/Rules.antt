@@ -7,14 +7,11 @@ use lib.Dec.{eqb, leb, ltb}
 use lib.ListN.{length}
 use Rattle.general.specs.Booleans.{bit}
 use Rattle.general.specs.Search.{find, any}
-use Rattle.literal.specs.Literal.{Literal, TRUE, FALSE, var, opposite, same}
+use Rattle.literal.specs.declared.Literal.{Literal}
+use Rattle.literal.specs.Literal.{TRUE, FALSE, var, opposite, same, isOpen}
+use Rattle.theory.specs.declared.Step.{Step}
+use Rattle.theory.specs.declared.Step.the-variants.{DeadEnd, Becomes}
 use Rattle.theory.specs.Formula.{Clause}
-use Rattle.theory.specs.State.{isOpen}
-
--- a dead end, or that an open literal x becomes t
-pub data Step : Type 0 where
-  deadEnd : Step
-  becomes : Literal → Literal → Step
 
 -- how often a literal stands in a clause, and whether it does
 unfoldable pub occurs : Literal → Clause → ℕ
@@ -36,15 +33,15 @@ when b o = cond b o none
 
 -- the literal that was found becomes false
 abbrev pub becomesFalse : Option Literal → Option Step
-becomesFalse = Option·map (λ x. becomes x FALSE)
+becomesFalse = Option·map (λ x. Becomes x FALSE)
 
 -- exactly one of x and y is true: "tie the higher placement to the lower"
 abbrev pub tie : Literal → Literal → Step
-tie x y = cond (ltb (var x) (var y)) (becomes y (opposite x)) (becomes x (opposite y))
+tie x y = cond (ltb (var x) (var y)) (Becomes y (opposite x)) (Becomes x (opposite y))
 
 -- 1. Two true entries, or none true and none open: dead end.
 abbrev pub rule1 : Clause → Option Step
-rule1 c = when (leb 2 (occurs TRUE c) || eqb (length c) 0) (some deadEnd)
+rule1 c = when (leb 2 (occurs TRUE c) || eqb (length c) 0) (some DeadEnd)
 
 -- 2. One true: the first open entry becomes false.
 abbrev pub rule2 : Clause → Option Step
@@ -53,7 +50,7 @@ rule2 c = when (eqb (occurs TRUE c) 1) (becomesFalse (find isOpen c))
 -- 3. None true, one open: it becomes true.
 abbrev pub rule3 : Clause → Option Step
 rule3 [] = none
-rule3 (x ∷ []) = when (isOpen x) (some (becomes x TRUE))
+rule3 (x ∷ []) = when (isOpen x) (some (Becomes x TRUE))
 rule3 (x ∷ y ∷ c) = none
 
 -- 4. None true, an open entry stands twice with one sign: it becomes false.

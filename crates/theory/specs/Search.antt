@@ -8,7 +8,9 @@ use lib.IntN.{ℤ, pos as posℤ}
 use lib.ListN.{length, replicate}
 use Rattle.general.specs.Booleans.{bit}
 use Rattle.general.specs.Lists.{upTo}
-use Rattle.literal.specs.Literal.{Literal, pos, neg, TRUE, FALSE, var, entryOf}
+use Rattle.literal.specs.declared.Literal.{Literal}
+use Rattle.literal.specs.declared.Literal.the-variants.{Pos, Neg}
+use Rattle.literal.specs.Literal.{TRUE, FALSE, var, entryOf}
 use Rattle.theory.specs.Formula.{Clause, Formula, Assignment, holds, Choice, clauses}
 use Rattle.theory.specs.State.{State, initial, assign, standing}
 use Rattle.theory.specs.Rules.{live}
@@ -44,7 +46,7 @@ choiceOf n s = upTo (λ p. holds onlyConstant (s p)) n
 -- "try it left out, and only if that has no layout try it taken"; "The second side starts from the state as it was before the split"
 abbrev pub splitOn : ℕ → State → Option ℕ → Decision State Choice
 splitOn n s none = done (choiceOf n s)
-splitOn n s (some p) = branch p (assign (pos p) FALSE s) (assign (pos p) TRUE s)
+splitOn n s (some p) = branch p (assign (Pos p) FALSE s) (assign (Pos p) TRUE s)
 
 abbrev pub decided : ℕ → Formula → Settled → Decision State Choice
 decided n f dead = t.dead

@@ -5,21 +5,23 @@ use mathlib.Core.List.{List, [], _∷_}
 use Prim.Native.Nat.{ℕ, zero, suc, _+_, _≤_, _<_}
 use lib.Dec.{eqb, ltb}
 use Rattle.general.specs.Booleans.{bit}
-use Rattle.literal.specs.Literal.{Literal, pos, neg, TRUE, FALSE, var, opposite, same}
+use Rattle.literal.specs.declared.Literal.{Literal}
+use Rattle.literal.specs.declared.Literal.the-variants.{Pos, Neg}
+use Rattle.literal.specs.Literal.{TRUE, FALSE, var, opposite, same, isOpen}
 use Rattle.theory.specs.Formula.{Clause, Assignment, holds}
 
 -- "A state says of each placement: taken, left out, open, or tied to a lower open placement as equal or opposite":
--- TRUE, FALSE, pos p itself, or pos r or neg r of that lower one
+-- TRUE, FALSE, Pos p itself, or Pos r or Neg r of that lower one
 abbrev pub State : Type 0
 State = ℕ → Literal
 
 -- everything is open
 abbrev pub initial : State
-initial p = pos p
+initial p = Pos p
 
 abbrev pub value : State → Literal → Literal
-value s (pos p) = s p
-value s (neg p) = opposite (s p)
+value s (Pos p) = s p
+value s (Neg p) = opposite (s p)
 
 -- x becomes t, and its opposite the opposite of t
 abbrev pub replace : Literal → Literal → Literal → Literal
@@ -38,14 +40,10 @@ unfoldable pub standing : State → Clause → Clause
 standing s [] = []
 standing s (l ∷ c) = stand (value s l) (standing s c)
 
--- of the literals that stand in a clause, those that are not TRUE are open
-abbrev pub isOpen : Literal → Bool
-isOpen l = ltb 0 (var l)
-
 -- how many of 1 to n are open
 unfoldable pub opens : State → ℕ → ℕ
 opens s zero = 0
-opens s (suc n) = bit (same (s (suc n)) (pos (suc n))) + opens s n
+opens s (suc n) = bit (same (s (suc n)) (Pos (suc n))) + opens s n
 
 -- an assignment does what the state says: a taken placement has 1, a tied one its root's value or the opposite
 pub record Agrees (a : Assignment) (s : State) : Type 0 where
@@ -56,4 +54,4 @@ pub record Agrees (a : Assignment) (s : State) : Type 0 where
 pub record WellFormed (n : ℕ) (s : State) : Type 0 where
   pub low : (p : ℕ) → var (s p) ≤ p
   pub fixed : (p : ℕ) → value s (s p) ≡ s p
-  pub beyond : (p : ℕ) → n < p → s p ≡ pos p
+  pub beyond : (p : ℕ) → n < p → s p ≡ Pos p

@@ -6,10 +6,12 @@ use Prim.Native.Nat.{ℕ, zero, suc, _+_, _*_}
 use lib.Dec.{eqb, leb, ltb}
 use lib.IntN.{ℤ, pos as posℤ}
 use lib.ListN.{length, getD}
-use Rattle.literal.specs.Literal.{pos, neg, entryOf, maxVariables, maxClauses, maxLiterals}
+use Rattle.literal.specs.declared.Literal.the-variants.{Pos, Neg}
+use Rattle.literal.specs.Literal.{entryOf, maxVariables, maxClauses, maxLiterals}
 use Rattle.receipt.specs.declared.Fault.{Fault}
 use Rattle.receipt.specs.declared.Fault.the-variants.{TooManyVariables, TooManyClauses, TooManyLiterals, UnknownVariable, UnknownMark, CutStrip, OutOfTurn, TableShort, StripTooLong}
 use Rattle.receipt.specs.declared.Refusal.{Refusal}
+use Rattle.receipt.specs.Receipt.{refusal}
 
 pub data Mark : Type 0 where
   placements chapter opens taken leftOut closes ends : Mark
@@ -81,7 +83,7 @@ pub data Reading : Type 0 where
   stops : Refusal → Reading
 
 abbrev pub refuse : Fault → ℕ → Reading
-refuse why i = stops (record { fault = why; place = i })
+refuse why i = stops (refusal why i)
 
 abbrev pub nothingRead : Read
 nothingRead = record { turn = start; variables = 0; clauses = 0; literals = 0; table = [] }
@@ -109,8 +111,8 @@ obey room i r v opens =
     cond (ltb (r .clauses) maxClauses)
     (goes (record { turn = inside; variables = r .variables; clauses = suc (r .clauses); literals = r .literals; table = r .table }))
     (refuse TooManyClauses i)
-obey room i r v taken = literal room i r v (entryOf (pos v))
-obey room i r v leftOut = literal room i r v (entryOf (neg v))
+obey room i r v taken = literal room i r v (entryOf (Pos v))
+obey room i r v leftOut = literal room i r v (entryOf (Neg v))
 obey room i r v closes = store room i outside (r .literals) r (posℤ 0)
 obey room i r v ends = goes (record { turn = after; variables = r .variables; clauses = r .clauses; literals = r .literals; table = r .table })
 
@@ -120,11 +122,11 @@ pub data Command : Type 0 where
   refused : Refusal → Command
 
 abbrev pub commandFor : List ℕ → ℕ → Turn → Option Mark → Command
-commandFor s i t none = refused (record { fault = UnknownMark; place = i })
+commandFor s i t none = refused (refusal UnknownMark i)
 commandFor s i t (some m) =
     cond (allowed t m)
-    (cond (leb (i + 1 + operandBytes m) (length s)) (command m (operandAt s i m) (i + 1 + operandBytes m)) (refused (record { fault = CutStrip; place = i })))
-    (refused (record { fault = OutOfTurn; place = i }))
+    (cond (leb (i + 1 + operandBytes m) (length s)) (command m (operandAt s i m) (i + 1 + operandBytes m)) (refused (refusal CutStrip i)))
+    (refused (refusal OutOfTurn i))
 
 unfoldable pub commandAt : List ℕ → ℕ → Turn → Command
 commandAt s i t = commandFor s i t (markOf (getD s i 0))

@@ -9,6 +9,7 @@ use Rattle.general.specs.Booleans.{bit}
 use Rattle.literal.specs.Literal.{maxVariables, maxClauses, maxLiterals}
 use Rattle.receipt.specs.declared.Fault.{Fault}
 use Rattle.receipt.specs.declared.Fault.the-variants.{TooManyVariables, TooManyClauses, TooManyLiterals, OpenClause, UnknownVariable}
+use Rattle.receipt.specs.Receipt.{refusal}
 use Rattle.receipt.specs.declared.Checked.{Checked}
 use Rattle.receipt.specs.declared.Checked.the-variants.{Passed, Refused}
 
@@ -31,7 +32,7 @@ endsOpen b [] = b
 endsOpen b (e ∷ t) = endsOpen (not (closes e)) t
 
 abbrev pub refused : Fault → ℕ → Checked
-refused why at = Refused (record { fault = why; place = at })
+refused why at = Refused (refusal why at)
 
 -- "Place of 5 is the first wrong index": i is the index of the first element
 unfoldable pub unknownFrom : ℕ → ℕ → List ℤ → Checked

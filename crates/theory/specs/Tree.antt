@@ -4,7 +4,8 @@ use mathlib.Core.List.{List, [], _∷_}
 use mathlib.Core.Option.{Option, none, some, Option·map}
 use Prim.Native.Nat.{ℕ, zero, suc, _+_}
 use lib.Dec.{leb}
-use Rattle.literal.specs.Literal.{Literal, pos, neg}
+use Rattle.literal.specs.declared.Literal.{Literal}
+use Rattle.literal.specs.declared.Literal.the-variants.{Pos, Neg}
 
 -- what is decided of a state: a dead end, a layout, or a split on a variable, with the states of its left-out and taken sides
 pub data Decision (S A : Type 0) : Type 0 where
@@ -32,8 +33,8 @@ module _ {A : Type 0} where
 module _ {S A : Type 0} where
   -- a split on p whose left-out side met k splits: "only if that has no layout try it taken"
   abbrev pub second : (S → Run A) → ℕ → S → ℕ → Option (Found A) → Run A
-  second walk p r k none = run (Option·map (through (pos p)) (walk r .found)) (1 + k + walk r .splits)
-  second walk p r k (some a) = run (some (through (neg p) a)) (1 + k)
+  second walk p r k none = run (Option·map (through (Pos p)) (walk r .found)) (1 + k + walk r .splits)
+  second walk p r k (some a) = run (some (through (Neg p) a)) (1 + k)
 
   abbrev pub visit : (S → Run A) → Decision S A → Run A
   visit walk dead = run none 0

@@ -1,5 +1,5 @@
 -- `due_of` meets its contract: the refusals in their order, and else a head for each group.
-use mathlib.Core.Path.{_≡_, _∙_}
+use mathlib.Core.Path.{_≡_, ap, _∙_}
 use mathlib.Core.List.{List}
 use Prim.Native.Nat.{ℕ}
 use lib.IntN.{ℤ}
@@ -10,7 +10,7 @@ use Rattle.receipt.specs.declared.Checked.the-variants.{Passed}
 use Rattle.table.proofs.Tallies.{tally-clauses, verdict-check}
 use Rattle.table.specs.Tally.{tallyOf, verdict}
 use Rattle.table.specs.declared.Tally.{Tally}
-use Rattle.index.specs.Index.{dueChecked, dueOf}
+use Rattle.index.specs.Index.{dueRefused, dueChecked, dueOf}
 use Rattle.index.proofs.due_of.Statement.{statement}
 use Rattle.index.proofs.due_of.Tie as tie
 
@@ -27,11 +27,11 @@ returns c =
 
 returns-2 : tie.Need-returns-2
 returns-2 c =
-    let k = c .before .before .before in
+    let k = c .before .before .before .before in
     let v = k .before .before in
     let a = v .before .before .args in
     let e = decided (a .n) (a .room) (a .table .now) (v .before .tally-of .result) (v .verdict .result) Passed (v .before .tally-of .ensures) (v .verdict .ensures) (k .enum-told .given .1) in
-    c .refused2 .ensures ∙ rw (lt-ltb _ _ (c .before .if1 .taken)) at e
+    c .refused2 .ensures ∙ ap dueRefused (c .before .new .ensures) ∙ rw (lt-ltb _ _ (c .before .before .if1 .taken)) at e
 
 returns-3 : tie.Need-returns-3
 returns-3 c =
@@ -51,6 +51,7 @@ due-of-spec =
     (λ c κs. search needs)
     returns
     (λ c. search needs)
+    (λ c κs. search needs)
     (λ c κs. search needs)
     returns-2
     returns-3)

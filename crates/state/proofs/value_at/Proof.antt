@@ -1,43 +1,28 @@
--- `value_at` meets its contract: the variable's element, or its opposite, by the literal's sign. Assumes nothing.
-use mathlib.Core.Path.{sym, ap, _∙_}
+-- `value_at` meets its contract, by the literal's sign.
+use mathlib.Core.Path.{ap, sym, _∙_}
 use borrow.Author.Needs.{needs}
-use native.Mathlib.Omega.{arith}
-use lib.ListN.{getD}
-use Rattle.literal.specs.Literal.{codeOf}
-use Rattle.literal.proofs.Codes.{codeOf-literalAt, var-at}
-use Rattle.state.proofs.Values.{value-inside}
+use Rattle.literal.specs.Literal.{opposite}
+use Rattle.theory.specs.State.{value}
+use Rattle.state.specs.State.{stateOf}
 use Rattle.state.proofs.value_at.Statement.{statement}
 use Rattle.state.proofs.value_at.Tie as tie
 
-element-copy-out-t10 : tie.Need-element-copy-out-t10
-element-copy-out-t10 c = omega (arith, c .before .variable .ensures, var-at (c .before .before .args .x .0))
+root-requires : tie.Need-root-requires
+root-requires c κs = rw (c .before .x .given .1) at (c .before .before .before .pre)
+
+root-requires-2 : tie.Need-root-requires-2
+root-requires-2 c κs = rw (c .before .x2 .given .1) at (c .before .before .before .pre)
 
 returns : tie.Need-returns
 returns c =
-    let v = c .before .before .before .before .before in
-    let a = v .before .args in
-    sym
-    (ap codeOf (value-inside (a .values .now) (a .x .0) (search needs))
-    ∙ rw (← c .before .is-taken .ensures, c .if1 .taken, ← v .variable .ensures) (codeOf-literalAt (getD (a .values .now) (v .variable .result .0) 0)))
+    let k = c .before .before in
+    c .root .ensures ∙ sym (ap (value (stateOf (k .before .before .args .values .now))) (k .x .given .1))
 
 returns-2 : tie.Need-returns-2
 returns-2 c =
-    let v = c .before .before .before .before .before in
-    let a = v .before .args in
-    c .before .before .opposite .ensures
-    ∙ sym
-    (ap codeOf (value-inside (a .values .now) (a .x .0) (search needs))
-    ∙ rw (← c .before .is-taken .ensures, c .if1 .left, ← v .variable .ensures))
+    let k = c .before .before .before in
+    c .opposite .ensures ∙ ap opposite (c .before .root2 .ensures) ∙ sym (ap (value (stateOf (k .before .before .args .values .now))) (k .x2 .given .1))
 
 pub value-at-spec : {M : Type 1} → statement M
 value-at-spec =
-    tie.close
-    (tie.spec
-    (λ c κs. search needs)
-    (λ c. search needs)
-    (λ c. search needs)
-    element-copy-out-t10
-    (λ c κs. search needs)
-    (λ c κs. search needs)
-    returns
-    returns-2)
+    tie.close (tie.spec (λ c. search needs) root-requires (λ c. search needs) root-requires-2 (λ c κs. search needs) returns returns-2)

@@ -1,45 +1,43 @@
--- `Literal::entry` meets its contract: the variable of a 16-bit code is at most 32767, so that its negation fits. Assumes nothing.
-use mathlib.Core.Path.{_≡_}
-use Prim.Native.Nat.{ℕ, _≤_}
+-- `Literal::entry` meets its contract: a variable below 32768 has a signed number, and so has its opposite.
+use mathlib.Core.Path.{_≡_, ap, sym, refl, _∙_}
+use Prim.Native.Nat.{ℕ, zero, suc, _<_}
 use borrow.Author.Needs.{needs}
 use native.Mathlib.Omega.{arith}
-use lib.IntN.{pos}
+use lib.IntN.{pos, negℤ}
 use mir.Syntax.{w16}
-use mir.Val.{toZ}
+use mir.Val.{toZ, SFits}
 use mir.ValLaws.{toZ-pos}
-use Rattle.literal.specs.Literal.{literalAt}
+use Rattle.literal.specs.declared.Literal.the-variants.{Neg}
+use Rattle.literal.specs.Literal.{entryOf}
 use Rattle.literal.proofs.Signed.{neg-fits, negated}
-use Rattle.literal.proofs.Codes.{var-at}
-use Rattle.literal.proofs.Entries.{entryOf-sign}
 use Rattle.literal.proofs.Literal.entry.Statement.{statement}
 use Rattle.literal.proofs.Literal.entry.Tie as tie
 
-small : (c : tie.After-variable) → c .variable .result .0 ≤ 32767
-small c = omega (arith, c .variable .ensures, var-at (c .before .args .self .0))
-
--- the number as the machine reads it back, signed
-read : (n : ℕ) → n ≤ 32767 → toZ w16 n ≡ pos n
+-- a number as the machine reads it back, signed
+read : (n : ℕ) → n < 32768 → toZ w16 n ≡ pos n
 read n h = toZ-pos w16 n (omega arith)
 
-cast-p : tie.Need-cast-p
-cast-p c = record { sfits = omega (arith, small (c .before)) }
+signed : (n : ℕ) → n < 32768 → SFits w16 (pos n)
+signed n h = record { sfits = omega arith }
 
-sub-result : tie.Need-sub-result
-sub-result c =
-    let v = c .before .before .before in
-    rw (read (v .variable .result .0) (small v)) (neg-fits (pos (v .variable .result .0)) (omega (arith, small v)))
+entry-neg : (n : ℕ) → negℤ (pos n) ≡ entryOf (Neg n)
+entry-neg zero = refl
+entry-neg (suc n) = refl
 
-returns : tie.Need-returns
-returns c =
-    let v = c .before .before .before in
-    rw (read (v .variable .result .0) (small v), entryOf-sign (literalAt (v .before .args .self .0)))
-    (rw (← c .before .is-taken .ensures, c .if1 .taken, ← v .variable .ensures))
+below : (c : tie.After-known-told) → c .before .x .given .0 .0 < 32768
+below c = rw (c .before .x .given .1) at (c .before .before .before .pre)
 
-returns-2 : tie.Need-returns-2
-returns-2 c =
-    let v = c .before .before .before in
-    rw (read (v .variable .result .0) (small v), entryOf-sign (literalAt (v .before .args .self .0)))
-    (rw (← c .before .is-taken .ensures, c .if1 .left, ← v .variable .ensures) (negated w16 (pos (v .variable .result .0)) (omega (arith, small v))))
+below-2 : (c : tie.After-known-told2) → c .before .x2 .given .0 .0 < 32768
+below-2 c = rw (c .before .x2 .given .1) at (c .before .before .before .pre)
 
 pub entry-spec : {M : Type 1} → statement M
-entry-spec = tie.close (tie.spec (λ c κs. search needs) cast-p (λ c κs. search needs) sub-result returns returns-2)
+entry-spec =
+    tie.close
+    (tie.spec
+    (λ c. search needs)
+    (λ c. signed _ (below c))
+    (λ c. search needs)
+    (λ c. signed _ (below-2 c))
+    (λ c. rw (read _ (below-2 c)) (neg-fits (pos (c .before .x2 .given .0 .0)) (omega (arith, below-2 c))))
+    (λ c. read _ (below c) ∙ sym (ap entryOf (c .before .x .given .1)))
+    (λ c. rw (read _ (below-2 c)) (negated w16 (pos (c .before .x2 .given .0 .0)) (omega (arith, below-2 c)) ∙ entry-neg (c .before .x2 .given .0 .0) ∙ sym (ap entryOf (c .before .x2 .given .1)))))

@@ -1,0 +1,7 @@
+-- `Refusal::receipt` meets its contract.
+use borrow.Author.Needs.{needs}
+use Rattle.receipt.proofs.Refusal.receipt.Statement.{statement}
+use Rattle.receipt.proofs.Refusal.receipt.Tie as tie
+
+pub receipt-spec : {M : Type 1} → statement M
+receipt-spec = tie.close (tie.spec (λ c κs. search needs) (λ c. rw (c .number .ensures)))

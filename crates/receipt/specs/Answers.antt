@@ -1,0 +1,54 @@
+-- What each answer puts on the receipt, and the values that it gives.
+use Prim.Native.Nat.{ℕ}
+use Rattle.receipt.specs.declared.Settling.{Settling}
+use Rattle.receipt.specs.declared.Settling.the-variants as settling
+use Rattle.receipt.specs.declared.Searching.{Searching}
+use Rattle.receipt.specs.declared.Searching.the-variants as searching
+use Rattle.receipt.specs.declared.Indexing.{Indexing}
+use Rattle.receipt.specs.declared.Indexing.the-variants as indexing
+use Rattle.receipt.specs.declared.Adding.{Adding}
+use Rattle.receipt.specs.declared.Adding.the-variants as adding
+use Rattle.receipt.specs.declared.Reading.{Reading}
+use Rattle.receipt.specs.declared.Reading.the-variants as reading
+use Rattle.receipt.specs.declared.Receipt.{Receipt}
+use Rattle.receipt.specs.Receipt.{outcomeNumber, receipt, refusedReceipt}
+
+-- Settle: 13 settled, 10 no layout
+abbrev pub settlingReceipt : Settling → Receipt
+settlingReceipt settling.Settled = receipt 13 0 0
+settlingReceipt settling.NoLayout = receipt 10 0 0
+settlingReceipt (settling.Refused r) = refusedReceipt r
+
+-- Search: each outcome with its count
+abbrev pub searchingReceipt : Searching → Receipt
+searchingReceipt (searching.Ended o k) = receipt (outcomeNumber o) 0 k
+searchingReceipt (searching.Refused r) = refusedReceipt r
+
+-- Index: 17 indexed
+abbrev pub indexingReceipt : Indexing → Receipt
+indexingReceipt indexing.Indexed = receipt 17 0 0
+indexingReceipt (indexing.Refused r) = refusedReceipt r
+
+-- Add: 15 group added
+abbrev pub addingReceipt : Adding → Receipt
+addingReceipt (adding.Added u) = receipt 15 0 0
+addingReceipt (adding.Refused r) = refusedReceipt r
+
+-- "the answer is the new used length, 0 on refusal"
+abbrev pub addedLength : Adding → ℕ
+addedLength (adding.Added u) = u
+addedLength (adding.Refused r) = 0
+
+-- Read: 16 strip read
+abbrev pub readingReceipt : Reading → Receipt
+readingReceipt (reading.Read n u) = receipt 16 0 0
+readingReceipt (reading.Refused r) = refusedReceipt r
+
+-- "the answer is n and the used length, both 0 on refusal"
+abbrev pub readVariables : Reading → ℕ
+readVariables (reading.Read n u) = n
+readVariables (reading.Refused r) = 0
+
+abbrev pub readLength : Reading → ℕ
+readLength (reading.Read n u) = u
+readLength (reading.Refused r) = 0
