@@ -23,7 +23,8 @@ use Rattle.receipt.specs.declared.Head.{Head}
 use Rattle.receipt.specs.Receipt.{refusal}
 use Rattle.theory.specs.Formula.{Clause, Formula, clauses, push}
 use Rattle.theory.specs.Table.{zeros, check}
-use Rattle.theory.specs.Calls.{over, head, headsFrom, headsOf, IndexCall, indexRefused, indexChecked, indexCall}
+use Rattle.theory.specs.Calls.{over, IndexCall, indexRefused, indexChecked, indexCall}
+use Rattle.theory.specs.Heads.{head, headsFrom, headsOf}
 use Rattle.theory.proofs.Heads.{clauses-zeros, heads-length, rest-at}
 use Rattle.index.specs.declared.Next.{Next}
 use Rattle.index.specs.declared.Due.{Due}

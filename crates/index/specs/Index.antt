@@ -14,7 +14,8 @@ use Rattle.receipt.specs.declared.Indexing.the-variants as indexing
 use Rattle.receipt.specs.declared.Head.{Head}
 use Rattle.receipt.specs.Receipt.{refusal}
 use Rattle.theory.specs.Table.{closes, zeros, check}
-use Rattle.theory.specs.Calls.{head, IndexCall, indexCall}
+use Rattle.theory.specs.Calls.{IndexCall, indexCall}
+use Rattle.theory.specs.Heads.{head}
 use Rattle.index.specs.declared.Next.{Next}
 use Rattle.index.specs.declared.Due.{Due}
 

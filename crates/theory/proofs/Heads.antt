@@ -16,7 +16,7 @@ use Rattle.literal.specs.Literal.{literalOf}
 use Rattle.receipt.specs.declared.Head.{Head}
 use Rattle.theory.specs.Formula.{Clause, Formula, clauses, push}
 use Rattle.theory.specs.Table.{zeros, endsOpen}
-use Rattle.theory.specs.Calls.{head, headsFrom, headsOf}
+use Rattle.theory.specs.Heads.{head, headsFrom, headsOf, headAt, HeadOf}
 
 -- the first clause of a table, and the clauses after it
 pub record Front (t : List ℤ) (c : Clause) (f : Formula) : Type 0 where
@@ -89,34 +89,25 @@ closed-at t s c f e o =
     let k : s + length c + 1 ≡ s + suc (length c) = omega arith in
     rw (k, ← drop-drop (suc (length c)) s t) (closed-after (drop s t) false (length c) (w .inside) (w .zero-after) ∙ o)
 
--- a head of a table: that of the clause c
-pub record HeadOf (t : List ℤ) (c : Clause) (h : Head) : Type 0 where
-  -- "number of entries"
-  pub entries : h .entries ≡ length c
-  pub literals : c ≡ map literalOf (take (h .entries) (drop (h .start) t))
-  -- the 0 that closes the group stands after its entries
-  pub inside : h .start + h .entries < length t
-  pub zero-after : getD t (h .start + h .entries) (posℤ 1) ≡ posℤ 0
-
-module _ (t : List ℤ) (d : Head) where
+module _ (t : List ℤ) where
   head-of : (s : ℕ) (c : Clause) (f : Formula) → clauses (drop s t) ≡ c ∷ f → HeadOf t c (head s (length c))
   head-of s c f e =
       let w : Front (drop s t) c f = front (drop s t) c f e in
       record { entries = refl; literals = w .literals; inside = omega (arith, w .inside, length-drop s t); zero-after = rw (← getD-drop) (w .zero-after) }
 
-  pub heads-hold : (f : Formula) (s : ℕ) → clauses (drop s t) ≡ f → (k : ℕ) → k < length f → HeadOf t (getD f k []) (getD (headsFrom s f) k d)
+  pub heads-hold : (f : Formula) (s : ℕ) → clauses (drop s t) ≡ f → (k : ℕ) → k < length f → HeadOf t (getD f k []) (headAt (headsFrom s f) k)
   unfolding headsFrom
   heads-hold [] s e k h = absurd (omega arith)
   heads-hold (c ∷ f) s e zero h = head-of s c f e
   heads-hold (c ∷ f) s e (suc k) h = heads-hold f (s + length c + 1) (rest-at t s c f e) k (omega arith)
 
   -- each head starts after the 0 of the one before it
-  pub first-start : (f : Formula) (s : ℕ) → 0 < length f → getD (headsFrom s f) 0 d .start ≡ s
+  pub first-start : (f : Formula) (s : ℕ) → 0 < length f → headAt (headsFrom s f) 0 .start ≡ s
   unfolding headsFrom
   first-start [] s h = absurd (omega arith)
   first-start (c ∷ f) s h = refl
 
-  pub next-start : (f : Formula) (s k : ℕ) → suc k < length f → let h = getD (headsFrom s f) k d in getD (headsFrom s f) (suc k) d .start ≡ h .start + h .entries + 1
+  pub next-start : (f : Formula) (s k : ℕ) → suc k < length f → let h = headAt (headsFrom s f) k in headAt (headsFrom s f) (suc k) .start ≡ h .start + h .entries + 1
   unfolding headsFrom
   next-start [] s k h = absurd (omega arith)
   next-start (c ∷ f) s zero h = first-start f (s + length c + 1) (omega arith)
@@ -124,7 +115,7 @@ module _ (t : List ℤ) (d : Head) where
 
   -- and the last one ends with the table
   pub last-end : (f : Formula) (s : ℕ) → clauses (drop s t) ≡ f → endsOpen false (drop s t) ≡ false → (k : ℕ) → suc k ≡ length f →
-      let h = getD (headsFrom s f) k d in h .start + h .entries + 1 ≡ length t
+      let h = headAt (headsFrom s f) k in h .start + h .entries + 1 ≡ length t
   unfolding headsFrom
   last-end [] s e o k h = absurd (omega arith)
   last-end (c ∷ []) s e o zero h =
@@ -135,8 +126,8 @@ module _ (t : List ℤ) (d : Head) where
   last-end (c ∷ c′ ∷ f) s e o zero h = absurd (omega arith)
   last-end (c ∷ c′ ∷ f) s e o (suc k) h = last-end (c′ ∷ f) (s + length c + 1) (rest-at t s c (c′ ∷ f) e) (closed-at t s c (c′ ∷ f) e o) k (omega arith)
 
-  -- "heads are in order"
-  pub in-order : (f : Formula) (s j k : ℕ) → j < k → k < length f → getD (headsFrom s f) j d .start < getD (headsFrom s f) k d .start
+  -- heads are in order
+  pub in-order : (f : Formula) (s j k : ℕ) → j < k → k < length f → headAt (headsFrom s f) j .start < headAt (headsFrom s f) k .start
   in-order f s j zero l h = absurd (omega arith)
   in-order f s j (suc k) l h = elim (decLt j k) [
     | yes p ↦ omega (arith, in-order f s j k p (omega arith), next-start f s k h)

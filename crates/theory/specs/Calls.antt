@@ -28,7 +28,8 @@ use Rattle.receipt.specs.declared.Receipt.{Receipt}
 use Rattle.receipt.specs.declared.Outcome.the-variants as outcome
 use Rattle.receipt.specs.Receipt.{refusal, refusedReceipt}
 use Rattle.receipt.specs.Answers.{searchingReceipt}
-use Rattle.theory.specs.Formula.{Formula, Choice, clauses}
+use Rattle.theory.specs.Formula.{Choice, clauses}
+use Rattle.theory.specs.Heads.{headsOf}
 use Rattle.theory.specs.State.{State, initial}
 use Rattle.theory.specs.Table.{zeros, nonzeros, refused, check}
 use Rattle.theory.specs.Propagation.{Settled, dead, rest, settle}
@@ -99,19 +100,6 @@ unfoldable pub searchCall : ℕ → List ℤ → ℕ → List ℕ → List ℤ �
 searchCall n t b plan trail = searchChecked (check n t) n t b plan trail
 
 -- Index -----------------------------------------------------------------------------------------------------------
-
--- the head of a group
-abbrev pub head : ℕ → ℕ → Head
-head s k = record { start = s; entries = k }
-
--- "each with its start (the index of its first element, of its 0 if it is empty) and number of entries": the first of the groups starts at s
-unfoldable pub headsFrom : ℕ → Formula → List Head
-headsFrom s [] = []
-headsFrom s (c ∷ f) = head s (length c) ∷ headsFrom (s + length c + 1) f
-
--- "one per group"
-abbrev pub headsOf : List ℤ → List Head
-headsOf t = headsFrom 0 (clauses t)
 
 pub record IndexCall : Type 0 where
   pub answer : Indexing

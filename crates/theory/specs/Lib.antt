@@ -9,4 +9,5 @@ pub mod Bound
 pub mod Search
 pub mod Filings
 pub mod Strip
+pub mod Heads
 pub mod Calls
