@@ -81,15 +81,6 @@ heads-made t = rw (← clauses-zeros t) (heads-are t (clauses t) 0 refl)
 
 -- a call: so many heads as are due, stored from the first on
 module _ (n : ℕ) (t : List ℤ) (hs : List Head) where
-  -- there is room for them
-  pub due-room : dueOf n t (length hs) .heads ≤ length hs
-  unfolding dueOf
-  due-room = go (check n t)
-    where
-      go : (k : Checked) → dueChecked k (zeros t) (length hs) .heads ≤ length hs
-      go (Refused r) = omega arith
-      go Passed = cond-ind (λ (d : Due). d .heads ≤ length hs) _ _ (ltb (length hs) (zeros t)) (λ _. omega arith) (λ e. ltb-false _ _ e)
-
   abbrev Stored : Due → IndexCall → Type 0
   Stored d c = called (d .answer) (sets hs 0 (headsAt (d .heads) t 0)) ≡ c
 
@@ -109,3 +100,12 @@ module _ (n : ℕ) (t : List ℤ) (hs : List Head) where
               let l : length (headsOf t) ≡ zeros t = heads-length 0 (clauses t) ∙ clauses-zeros t in
               let r : zeros t ≤ length hs = ltb-false _ _ e in
               rw (heads-made t) (ap (called indexing.Indexed) (sets-eq (headsOf t) hs 0 (omega arith) ∙ rw (l, zero-add)))
+
+  -- there is room for them
+  pub due-room : dueOf n t (length hs) .heads ≤ length hs
+  unfolding dueOf
+  due-room = go (check n t)
+    where
+      go : (k : Checked) → dueChecked k (zeros t) (length hs) .heads ≤ length hs
+      go (Refused r) = omega arith
+      go Passed = cond-ind (λ (d : Due). d .heads ≤ length hs) _ _ (ltb (length hs) (zeros t)) (λ _. omega arith) (λ e. ltb-false _ _ e)

@@ -57,7 +57,7 @@ clauses-zeros (negsuc p ∷ t) = rw (eqb·suc-zero p) (omega (arith, push-length
 pub heads-length : (s : ℕ) (f : Formula) → length (headsFrom s f) ≡ length f
 unfolding headsFrom
 heads-length s [] = refl
-heads-length s (c ∷ f) = ap suc (heads-length (s + length c + 1) f)
+heads-length s (c ∷ f) = ap suc (heads-length _ f)
 
 -- the clauses after the first one, which begins at s
 pub rest-at : (t : List ℤ) (s : ℕ) (c : Clause) (f : Formula) → clauses (drop s t) ≡ c ∷ f → clauses (drop (s + length c + 1) t) ≡ f
@@ -99,7 +99,7 @@ module _ (t : List ℤ) where
   unfolding headsFrom
   heads-hold [] s e k h = absurd (omega arith)
   heads-hold (c ∷ f) s e zero h = head-of s c f e
-  heads-hold (c ∷ f) s e (suc k) h = heads-hold f (s + length c + 1) (rest-at t s c f e) k (omega arith)
+  heads-hold (c ∷ f) s e (suc k) h = heads-hold f _ (rest-at t s c f e) k (omega arith)
 
   -- each head starts after the 0 of the one before it
   pub first-start : (f : Formula) (s : ℕ) → 0 < length f → headAt (headsFrom s f) 0 .start ≡ s
@@ -110,8 +110,8 @@ module _ (t : List ℤ) where
   pub next-start : (f : Formula) (s k : ℕ) → suc k < length f → let h = headAt (headsFrom s f) k in headAt (headsFrom s f) (suc k) .start ≡ h .start + h .entries + 1
   unfolding headsFrom
   next-start [] s k h = absurd (omega arith)
-  next-start (c ∷ f) s zero h = first-start f (s + length c + 1) (omega arith)
-  next-start (c ∷ f) s (suc k) h = next-start f (s + length c + 1) k (omega arith)
+  next-start (c ∷ f) s zero h = first-start f _ (omega arith)
+  next-start (c ∷ f) s (suc k) h = next-start f _ k (omega arith)
 
   -- and the last one ends with the table
   pub last-end : (f : Formula) (s : ℕ) → clauses (drop s t) ≡ f → endsOpen false (drop s t) ≡ false → (k : ℕ) → suc k ≡ length f →
