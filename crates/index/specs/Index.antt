@@ -1,10 +1,10 @@
 -- How code makes the heads of a table: one group after the other. And a call of Index: its answer, and the list after it.
-use mathlib.Core.Bool.{Bool, cond}
+use mathlib.Core.Bool.{cond}
 use mathlib.Core.List.{List, [], _∷_, _++_}
 use Prim.Native.Nat.{ℕ, zero, suc, _+_}
 use lib.Dec.{ltb}
 use lib.IntN.{ℤ}
-use lib.ListN.{length, take, drop}
+use lib.ListN.{take, drop}
 use Rattle.receipt.specs.declared.Fault.the-variants.{HeadsShort}
 use Rattle.receipt.specs.declared.Refusal.{Refusal}
 use Rattle.receipt.specs.declared.Checked.{Checked}

@@ -1,22 +1,21 @@
 -- The heads of a table's groups: they cut the table into its groups, and each has the literals of its group.
-use mathlib.Core.Path.{_≡_, refl, ap, sym, _∙_}
+use mathlib.Core.Path.{_≡_, refl, ap, _∙_}
 use mathlib.Core.Bool.{Bool, true, false}
 use mathlib.Core.List.{List, [], _∷_, map}
-use Prim.Native.Nat.{ℕ, zero, suc, _+_, _<_, _≤_}
+use Prim.Native.Nat.{ℕ, zero, suc, _+_, _<_}
 use native.Mathlib.Decide.{decLt}
 use native.Mathlib.Omega.{arith}
 use lib.Dec.{eqb·suc-zero}
 use lib.IntN.{ℤ, negsuc, pos as posℤ}
 use lib.ListN.{length, getD, take, drop, length-drop}
-use lib.Seq.{drop-drop, getD-drop, drop-length}
+use lib.Seq.{drop-drop, getD-drop}
 use Rattle.general.specs.Booleans.{true-not-false}
 use Rattle.literal.specs.declared.Literal.{Literal}
 use Rattle.literal.specs.declared.Literal.the-variants.{Pos, Neg}
 use Rattle.literal.specs.Literal.{literalOf}
-use Rattle.receipt.specs.declared.Head.{Head}
 use Rattle.theory.specs.Formula.{Clause, Formula, clauses, push}
 use Rattle.theory.specs.Table.{zeros, endsOpen}
-use Rattle.theory.specs.Heads.{head, headsFrom, headsOf, headAt, HeadOf}
+use Rattle.theory.specs.Heads.{head, headsFrom, headAt, HeadOf}
 
 -- the first clause of a table, and the clauses after it
 pub record Front (t : List ℤ) (c : Clause) (f : Formula) : Type 0 where

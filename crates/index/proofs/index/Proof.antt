@@ -1,7 +1,7 @@
 -- `index` meets its contract: a walk of its MIR, by hand, since the heads are behind a reference. The heads' borrow is opened once, at the start, and closed once, at the
 -- end. `due_of` and `next_head` each get a copy of the table's borrow; a turn stores the head that `next_head` returns. Assumes nothing.
 use mathlib.Core.Path.{_≡_, refl, sym, _∙_, ap, subst}
-use Prim.Native.Nat.{ℕ, zero, suc, _+_, _-_, _*_, _<_, _≤_, _^_}
+use Prim.Native.Nat.{ℕ, suc, _+_, _-_, _*_, _<_, _≤_, _^_}
 use native.Mathlib.Numerals.{add-one}
 use native.Mathlib.Omega.{arith}
 use mathlib.Core.WellFounded.{WellFounded, InvImage·wf}
@@ -100,8 +100,8 @@ abbrev hty : Ty
 hty = sliceTy (tyRef (named 1) mut (pointee (T.the-row .written)))
 
 -- the function, with its locals' declared types by their own names: what antt compares is then small
-abbrev spelt : Fn
-spelt = record {
+abbrev function : Fn
+function = record {
   lifetimes = 2;
   outlives = [];
   params = 3;
@@ -110,8 +110,8 @@ spelt = record {
   body = body.t-1;
 }
 
-spelt-is : spelt ≡ code.function
-spelt-is = refl
+function-is : function ≡ code.function
+function-is = refl
 
 -- ---- the loop's state: the heads from k on are still to be stored, of the groups from `at` on
 record State (t : List ℤ) (ys : List Head) (count : ℕ) : Type 0 where
@@ -142,7 +142,7 @@ module _ (t : List ℤ) (ys : List Head) (count : ℕ) (s : State t ys count) wh
         rw (e, add-one) (rw (z, add-one) at (s .goal));
   }
 
--- the bytes before head k of a list that has room
+-- the bytes before head k of a list that has room: a head has 16
 fits-bytes : (k n : ℕ) → k < n → n * 16 < 2 ^ 63 → k * 16 < 2 ^ 64
 fits-bytes k n l r = omega arith
 
@@ -208,7 +208,13 @@ module _ {M : Type 1} (𝓤 : URA M) (H : Heap 𝓤) (A : Atoms 𝓤) (W : Given
   says-next at r = exE 𝓤 _ (λ ws. snd∗ 𝓤 (sem 𝓤 H A (lasts g.ended (κ₁, tt) (tx, (at, tt)) ws)) (fact 𝓤 (r ≡ nextHead t at)))
 
   -- ---- the locals, and what stands at each point of the body
-  module _ (l₀ l₁ l₂ l₃ l₄ l₅ l₆ l₇ l₈ l₉ l₁₀ l₁₁ : ℕ) where
+  module _ (𝓣 : Tables 𝓤 H) (fm : FmC 𝓤 H (W .laws) (𝓣 .C)) (due-known : Triple 𝓤 (𝓣 .C #index·due-of) (DueOf 𝓤 H A mem run)) (next-known : Triple 𝓤 (𝓣 .C #index·next-head) (NextHead 𝓤 H A mem run)) (l₀ l₁ l₂ l₃ l₄ l₅ l₆ l₇ l₈ l₉ l₁₀ l₁₁ : ℕ) where
+    abbrev C : Calls 𝓤 H
+    C = 𝓣 .C
+
+    abbrev Λ : Loops 𝓤 H
+    Λ = 𝓣 .Λ
+
     abbrev En : Env 𝓤 H
     En = (E′.mir, l₀) ∷ (tty, l₁) ∷ (tyInt w64, l₂) ∷ (hty, l₃) ∷ (D′.mir, l₄) ∷ (tyInt w64, l₅) ∷ (tyInt w64, l₆) ∷ (N′.mir, l₇) ∷ (tyInt w64, l₈) ∷ (tyBool, l₉) ∷ (tyInt w64, l₁₀) ∷ (tyPtr, l₁₁) ∷ []
 
@@ -241,73 +247,60 @@ module _ {M : Type 1} (𝓤 : URA M) (H : Heap 𝓤) (A : Atoms 𝓤) (W : Given
     abbrev Looping : (d : Due) → State t ys (d .heads) → List (Item 𝓤)
     Looping d s = Stands (s .zs) (‵ (fat fullShare D′.mir l₄ 0 (only (LL.vals D.the-type D′.the-laws d)))) (‵ (fat fullShare (tyInt w64) l₅ 0 (vint w64 (s .at)))) (‵ (fat fullShare (tyInt w64) l₆ 0 (vint w64 (s .k)))) (‵ (froom (tyInt w64) l₈ 0))
 
-  -- ---- once it is known what is due
-  module _ (d : Due) (dv : Val) (is-due : Is D.the-row d (dv ∷ [])) (due-is : d ≡ dueOf n t (length ys)) where
-    abbrev St : Type 0
-    St = State t ys (d .heads)
+    -- ---- once it is known what is due
+    module _ (d : Due) (dv : Val) (is-due : Is D.the-row d (dv ∷ [])) (due-is : d ≡ dueOf n t (length ys)) where
+      abbrev St : Type 0
+      St = State t ys (d .heads)
 
-    -- the answer's machine value
-    abbrev av : Val
-    av = EL.val E.the-type E′.the-laws (d .answer)
+      -- the answer's machine value
+      abbrev av : Val
+      av = EL.val E.the-type E′.the-laws (d .answer)
 
-    answer-is : Is E.the-row (d .answer) (av ∷ [])
-    answer-is = LL.owed D.the-type D′.the-laws d (dv ∷ []) is-due .0
+      answer-is : Is E.the-row (d .answer) (av ∷ [])
+      answer-is = LL.owed D.the-type D′.the-laws d (dv ∷ []) is-due .0
 
-    due-fits : d .heads < 2 ^ 64
-    due-fits = LL.owed D.the-type D′.the-laws d (dv ∷ []) is-due .1 .0 .1
+      due-fits : d .heads < 2 ^ 64
+      due-fits = LL.owed D.the-type D′.the-laws d (dv ∷ []) is-due .1 .0 .1
 
-    k-fits : (s : St) → s .k < 2 ^ 64
-    k-fits s = omega (arith, s .within, due-fits)
+      k-fits : (s : St) → s .k < 2 ^ 64
+      k-fits s = omega (arith, s .within, due-fits)
 
-    due-within : d .heads ≤ length ys
-    due-within = rw due-is (due-room n t ys)
+      due-within : d .heads ≤ length ys
+      due-within = rw due-is (due-room n t ys)
 
-    ends : (s : St) → d .heads ≤ s .k → called (d .answer) (s .zs) ≡ indexCall n t ys
-    ends s over = ap (called (d .answer)) (all-stored t ys (d .heads) s over) ∙ rw due-is (index-stored n t ys)
+      ends : (s : St) → d .heads ≤ s .k → called (d .answer) (s .zs) ≡ indexCall n t ys
+      ends s over = ap (called (d .answer)) (all-stored t ys (d .heads) s over) ∙ rw due-is (index-stored n t ys)
 
-    exits : (s : St) → d .heads ≤ s .k
-        → ent 𝓤 (⋆ 𝓤 H A (‵ (fobs γ (codedHoleys T.the-row .code (heres T.the-row (s .zs)))) ∷ ‵ (fbor κ₂ (Held T.the-row (length (s .zs)) b o γ)) ∷ ‵ (flft κ₂ q₂) ∷ ‵ Tab ∷ ‵ (flft κ₁ q₁) ∷ [])) (Post av)
-    exits s over =
-        qed W (‵ (fobs γ (codedHoleys T.the-row .code (heres T.the-row (s .zs)))) ∷ ‵ (fbor κ₂ (Held T.the-row (length (s .zs)) b o γ)) ∷ ‵ (flft κ₂ q₂) ∷ ‵ Tab ∷ ‵ (flft κ₁ q₁) ∷ []) ∵
-        suffices ! _ (ends-at 𝓤 H A f.ended stayed (f.clauses 𝓤 H A mem run) W (((κ₁, (κ₂, tt)), (q₁, (q₂, tt)), tt, a, vals), tt) av (d .answer) (tt, (tt, (s .zs, tt))) (tt, (tt, (s .same, tt)))) $ says ! (ends s over) $
-        nothing ! $ move ! (3 ∷ 0 ∷ []) $ join ! $ move ! (4 ∷ 0 ∷ []) $ join ! $ frame ! $
-        -- [obs; the borrow; what table owns]
-        fjoin ! $ pureI ! (at-slice T.the-row (x (s .zs)) (hv ∷ [])) (tt, (tt, tt)) (ap (λ (m : ℕ). sliceVal (b, o) m ∷ []) (sym (s .same)), subst (Room T.the-row) (sym (s .same)) room) $ fjoin ! $
-        nothing ! $ move ! (1 ∷ 0 ∷ []) $ fjoin ! $ owned ! usize (Is usize) (uint-makes 𝓤 H A W w64) n _ (refl, n-fits) $ fjoin ! $ move ! (1 ∷ 0 ∷ []) $ fjoin ! $
-        owned ! E.the-row (Is E.the-row) (EL.makes E.the-type E′.the-plain 𝓤 H A) (d .answer) _ answer-is $ move ! (1 ∷ 0 ∷ []) $ done !
+      exits : (s : St) → d .heads ≤ s .k
+          → ent 𝓤 (⋆ 𝓤 H A (‵ (fobs γ (codedHoleys T.the-row .code (heres T.the-row (s .zs)))) ∷ ‵ (fbor κ₂ (Held T.the-row (length (s .zs)) b o γ)) ∷ ‵ (flft κ₂ q₂) ∷ ‵ Tab ∷ ‵ (flft κ₁ q₁) ∷ [])) (Post av)
+      exits s over =
+          qed W (‵ (fobs γ (codedHoleys T.the-row .code (heres T.the-row (s .zs)))) ∷ ‵ (fbor κ₂ (Held T.the-row (length (s .zs)) b o γ)) ∷ ‵ (flft κ₂ q₂) ∷ ‵ Tab ∷ ‵ (flft κ₁ q₁) ∷ []) ∵
+          suffices ! _ (ends-at 𝓤 H A f.ended stayed (f.clauses 𝓤 H A mem run) W (((κ₁, (κ₂, tt)), (q₁, (q₂, tt)), tt, a, vals), tt) av (d .answer) (tt, (tt, (s .zs, tt))) (tt, (tt, (s .same, tt)))) $ says ! (ends s over) $
+          nothing ! $ move ! (3 ∷ 0 ∷ []) $ join ! $ move ! (4 ∷ 0 ∷ []) $ join ! $ frame ! $
+          -- [obs; the borrow; what table owns]
+          fjoin ! $ pureI ! (at-slice T.the-row (x (s .zs)) (hv ∷ [])) (tt, (tt, tt)) (ap (λ (m : ℕ). sliceVal (b, o) m ∷ []) (sym (s .same)), subst (Room T.the-row) (sym (s .same)) room) $ fjoin ! $
+          nothing ! $ move ! (1 ∷ 0 ∷ []) $ fjoin ! $ owned ! usize (Is usize) (uint-makes 𝓤 H A W w64) n _ (refl, n-fits) $ fjoin ! $ move ! (1 ∷ 0 ∷ []) $ fjoin ! $
+          owned ! E.the-row (Is E.the-row) (EL.makes E.the-type E′.the-plain 𝓤 H A) (d .answer) _ answer-is $ move ! (1 ∷ 0 ∷ []) $ done !
 
-    -- ---- the loop's variant
-    abbrev Nearer : St → St → Type 0
-    Nearer j i = d .heads - j .k < d .heads - i .k
+      -- ---- the loop's variant
+      abbrev Nearer : St → St → Type 0
+      Nearer j i = d .heads - j .k < d .heads - i .k
 
-    Nearer-wf : WellFounded Nearer
-    Nearer-wf = InvImage·wf (λ (i : St). d .heads - i .k) (Nat·lt-wfRel .wf)
+      Nearer-wf : WellFounded Nearer
+      Nearer-wf = InvImage·wf (λ (i : St). d .heads - i .k) (Nat·lt-wfRel .wf)
 
-    start : St
-    start = record { at = 0; k = 0; zs = ys; at-fits = lit< tt; same = refl; within = omega arith; goal = let z : d .heads - 0 ≡ d .heads = omega arith in rw z }
-
-    module _ (𝓣 : Tables 𝓤 H) (fm : FmC 𝓤 H (W .laws) (𝓣 .C)) (next-known : Triple 𝓤 (𝓣 .C #index·next-head) (NextHead 𝓤 H A mem run)) (l₀ l₁ l₂ l₃ l₄ l₅ l₆ l₇ l₈ l₉ l₁₀ l₁₁ : ℕ) where
-      abbrev C : Calls 𝓤 H
-      C = 𝓣 .C
-
-      abbrev Λ : Loops 𝓤 H
-      Λ = 𝓣 .Λ
-
-      abbrev En′ : Env 𝓤 H
-      En′ = En l₀ l₁ l₂ l₃ l₄ l₅ l₆ l₇ l₈ l₉ l₁₀ l₁₁
-
-      abbrev At : St → List (Item 𝓤)
-      At = Looping l₀ l₁ l₂ l₃ l₄ l₅ l₆ l₇ l₈ l₉ l₁₀ l₁₁ d
+      start : St
+      start = record { at = 0; k = 0; zs = ys; at-fits = lit< tt; same = refl; within = omega arith; goal = let z : d .heads - 0 ≡ d .heads = omega arith in rw z }
 
       abbrev Turned : St → Out → SProp 𝓤
-      Turned s = afterTurn 𝓤 H (Below 𝓤 H A Nearer At s) (afterBlock 𝓤 H (afterSeq 𝓤 H (Wp 𝓤 H C Λ En′ body.t-6 (atReturn 𝓤 H En′ Post)) (atReturn 𝓤 H En′ Post)))
+      Turned s = afterTurn 𝓤 H (Below 𝓤 H A Nearer (Looping d) s) (afterBlock 𝓤 H (afterSeq 𝓤 H (Wp 𝓤 H C Λ En body.t-6 (atReturn 𝓤 H En Post)) (atReturn 𝓤 H En Post)))
 
-      turns : (s : St) → Sq W (At s) (runs C Λ En′ body.turn-1 (anyQ (Turned s)))
+      turns : (s : St) → Sq W (Looping d s) (runs C Λ En body.turn-1 (anyQ (Turned s)))
       unfolding afterTurn turned
       turns s =
           assigns ! (bin ! (load ! (from ! (stop !)) (look ! 16 refl)) (load ! (from ! (fld ! refl (stop !))) (look-in ! 20 (sub ! 1 refl (whole !)))) tt) (from ! (stop !)) (init ! 10 refl (tt, tt)) $
           first ! $ branches ! (load ! (from ! (stop !)) (look ! 10 refl))
-          (λ less. skips ! $ exec ! C Λ En′ (after (after body.turn-1)) (anyQ (Turned s)) $
+          (λ less. skips ! $ exec ! C Λ En (after (after body.turn-1)) (anyQ (Turned s)) $
           -- the call: a copy of the table's borrow, and its token, go to `next_head`
           move ! (4 ∷ []) $ use1 W (‵ Tab ⊛ ‵ Tab) (shr-slice-copy 𝓤 H A W (named 0) κ₁ i16 .twice tx (tv ∷ [])) $ split ! $ move ! (6 ∷ 0 ∷ []) $
           use2 W (raw (NextHead 𝓤 H A mem run .pre (to-next (s .at)))) (gives-next (s .at) (s .at-fits)) $
@@ -329,8 +322,8 @@ module _ {M : Type 1} (𝓤 : URA M) (H : Heap 𝓤) (A : Atoms 𝓤) (W : Given
           elem-put ! T.the-row fullShare (s .zs) (s .k) (r .head) (LL.vals T.the-type T′.the-laws (r .head)) b o (inside less) $
           assigns ! (of-opd ! (load ! (from ! (fld ! refl (stop !))) (look-in ! 14 (sub ! 1 refl (whole !))))) (from ! (stop !)) (store ! 18 refl (tt, record { fits = next-fits r u is })) $
           assigns-last ! (bin ! (load ! (from ! (stop !)) (look ! 16 refl)) (lit ! tt) (record { fits = k-fits (next r u is e less) })) (from ! (stop !)) (store ! 16 refl (tt, record { fits = k-fits (next r u is e less) })) $
-          forget ! 6 refl $ forget ! 8 refl $ forget ! 10 refl $ forget ! 14 refl $ again ! Nearer At s (next r u is e less) (fewer less)))))))
-          (λ over. jumps ! $ forget ! 10 refl $ exec ! C Λ En′ body.t-6 (atRet En′ Post) $
+          forget ! 6 refl $ forget ! 8 refl $ forget ! 10 refl $ forget ! 14 refl $ again ! Nearer (Looping d) s (next r u is e less) (fewer less)))))))
+          (λ over. jumps ! $ forget ! 10 refl $ exec ! C Λ En body.t-6 (atRet En Post) $
           assigns ! (of-opd ! (load ! (from ! (fld ! refl (stop !))) (look-in ! 20 (sub ! 0 refl (whole !))))) (from ! (stop !)) (init ! 28 refl (EL.lawful E.the-type E′.the-laws 𝓤 H A W tt .typed (d .answer) _ answer-is .0)) $
           closes-slice ! tt T.the-row ys (s .zs) (s .same) b o $
           -- [obs; the borrow; its token; what table owns; its token; _11; …; _0; …]
@@ -361,20 +354,19 @@ module _ {M : Type 1} (𝓤 : URA M) (H : Heap 𝓤) (A : Atoms 𝓤) (W : Given
           fewer less = omega (arith, ltb→lt (s .k) (d .heads) less)
 
       -- the rest of the body, once it is known what is due
-      rest : ent 𝓤 (⋆ 𝓤 H A (Decided l₀ l₁ l₂ l₃ l₄ l₅ l₆ l₇ l₈ l₉ l₁₀ l₁₁ d)) (Wp 𝓤 H C Λ En′ body.t-3 (atReturn 𝓤 H En′ Post))
+      rest : ent 𝓤 (⋆ 𝓤 H A (Decided d)) (Wp 𝓤 H C Λ En body.t-3 (atReturn 𝓤 H En Post))
       unfolding start
       rest =
-          qed W (Decided l₀ l₁ l₂ l₃ l₄ l₅ l₆ l₇ l₈ l₉ l₁₀ l₁₁ d) ∵ exec ! C Λ En′ body.t-3 (atRet En′ Post) $
+          qed W (Decided d) ∵ exec ! C Λ En body.t-3 (atRet En Post) $
           assigns ! (of-opd ! (lit ! tt)) (from ! (stop !)) (init ! 18 refl (tt, record { fits = lit< tt })) $
           assigns ! (of-opd ! (lit ! tt)) (from ! (stop !)) (init ! 16 refl (tt, record { fits = lit< tt })) $ forget ! 12 refl $
-          first ! $ blocks ! $ loops ! 𝓣 Nearer Nearer-wf At turns start
+          first ! $ blocks ! $ loops ! 𝓣 Nearer Nearer-wf (Looping d) turns start
 
-  module _ (𝓣 : Tables 𝓤 H) (fm : FmC 𝓤 H (W .laws) (𝓣 .C)) (due-known : Triple 𝓤 (𝓣 .C #index·due-of) (DueOf 𝓤 H A mem run)) (next-known : Triple 𝓤 (𝓣 .C #index·next-head) (NextHead 𝓤 H A mem run)) where
     -- the body, from the room to the call: a copy of the table's borrow, and its token, go to `due_of`
-    begun : (l₀ l₁ l₂ l₃ l₄ l₅ l₆ l₇ l₈ l₉ l₁₀ l₁₁ : ℕ) → ent 𝓤 (⋆ 𝓤 H A (Opened l₀ l₁ l₂ l₃ l₄ l₅ l₆ l₇ l₈ l₉ l₁₀ l₁₁))
-        (Wp 𝓤 H (𝓣 .C) (𝓣 .Λ) (En l₀ l₁ l₂ l₃ l₄ l₅ l₆ l₇ l₈ l₉ l₁₀ l₁₁) body.t-1 (atReturn 𝓤 H (En l₀ l₁ l₂ l₃ l₄ l₅ l₆ l₇ l₈ l₉ l₁₀ l₁₁) Post))
-    begun l₀ l₁ l₂ l₃ l₄ l₅ l₆ l₇ l₈ l₉ l₁₀ l₁₁ =
-        qed W (Opened l₀ l₁ l₂ l₃ l₄ l₅ l₆ l₇ l₈ l₉ l₁₀ l₁₁) ∵ exec ! (𝓣 .C) (𝓣 .Λ) (En l₀ l₁ l₂ l₃ l₄ l₅ l₆ l₇ l₈ l₉ l₁₀ l₁₁) body.t-1 (atRet (En l₀ l₁ l₂ l₃ l₄ l₅ l₆ l₇ l₈ l₉ l₁₀ l₁₁) Post) $
+    begun : ent 𝓤 (⋆ 𝓤 H A Opened)
+        (Wp 𝓤 H C Λ En body.t-1 (atReturn 𝓤 H En Post))
+    begun =
+        qed W Opened ∵ exec ! C Λ En body.t-1 (atRet En Post) $
         assigns ! (of-opd ! (load ! (from ! (fld ! refl (stop !))) (look-in ! 22 (sub ! 1 refl (whole !))))) (from ! (stop !)) (init ! 12 refl (tt, record { fits = room .0 })) $
         move ! (4 ∷ []) $ use1 W (‵ Tab ⊛ ‵ Tab) (shr-slice-copy 𝓤 H A W (named 0) κ₁ i16 .twice tx (tv ∷ [])) $ split ! $ move ! (6 ∷ 0 ∷ []) $
         use2 W (raw (DueOf 𝓤 H A mem run .pre to-due)) gives-due $
@@ -386,11 +378,12 @@ module _ {M : Type 1} (𝓤 : URA M) (H : Heap 𝓤) (A : Atoms 𝓤) (W : Given
         land ! (from ! (stop !)) (init ! 21 refl (LL.lawful D.the-type D′.the-laws 𝓤 H A W .typed d _ is .0)) $
         rewrite ! 21 (λ (w : Val). ‵ (fat fullShare D′.mir l₄ 0 w)) (ap only (LL.tells D.the-type D′.the-laws d (u ∷ []) is)) refl $
         drop ! $ split ! $ move ! (3 ∷ 4 ∷ 5 ∷ 6 ∷ 2 ∷ 0 ∷ 1 ∷ []) $ move ! (6 ∷ []) $ drop ! $
-        by ! (rest d u is e 𝓣 fm next-known l₀ l₁ l₂ l₃ l₄ l₅ l₆ l₇ l₈ l₉ l₁₀ l₁₁)))))
+        by ! (rest d u is e)))))
 
-    walk : ent 𝓤 (onEntry 𝓤 H A f.signature (κ₁, (κ₂, tt)) (q₁, (q₂, tt)) a vals) (WpFn 𝓤 H (𝓣 .C) (𝓣 .Λ) spelt (tv ∷ vint w64 n ∷ hv ∷ []) Post)
+  module _ (𝓣 : Tables 𝓤 H) (fm : FmC 𝓤 H (W .laws) (𝓣 .C)) (due-known : Triple 𝓤 (𝓣 .C #index·due-of) (DueOf 𝓤 H A mem run)) (next-known : Triple 𝓤 (𝓣 .C #index·next-head) (NextHead 𝓤 H A mem run)) where
+    walk : ent 𝓤 (onEntry 𝓤 H A f.signature (κ₁, (κ₂, tt)) (q₁, (q₂, tt)) a vals) (WpFn 𝓤 H (𝓣 .C) (𝓣 .Λ) function (tv ∷ vint w64 n ∷ hv ∷ []) Post)
     walk =
-        qed W ((‵ (flft κ₁ q₁) ⊛ ‵ (flft κ₂ q₂) ⊛ ‵ ftrue) ∷ ‵ (owns (ShrSlice (named 0) κ₁ i16 ∷ usize ∷ MutSlice (named 1) κ₂ T.the-row ∷ []) a vals) ∷ []) ∵ enter ! (𝓣 .C) (𝓣 .Λ) spelt (tv ∷ vint w64 n ∷ hv ∷ []) _ $
+        qed W ((‵ (flft κ₁ q₁) ⊛ ‵ (flft κ₂ q₂) ⊛ ‵ ftrue) ∷ ‵ (owns (ShrSlice (named 0) κ₁ i16 ∷ usize ∷ MutSlice (named 1) κ₂ T.the-row ∷ []) a vals) ∷ []) ∵ enter ! (𝓣 .C) (𝓣 .Λ) function (tv ∷ vint w64 n ∷ hv ∷ []) _ $
         alloc1 ! (λ l₀. alloc1 ! (λ l₁. alloc1 ! (λ l₂. alloc1 ! (λ l₃. alloc1 ! (λ l₄. alloc1 ! (λ l₅. alloc1 ! (λ l₆. alloc1 ! (λ l₇. alloc1 ! (λ l₈. alloc1 ! (λ l₉. alloc1 ! (λ l₁₀. alloc1 ! (λ l₁₁. alloc0 ! $ params1 ! $
         pass1 ! (init ! 20 refl (tt, (tt, (record { fits = t-room .0 }, tt)))) $ pass1 ! (init ! 18 refl (tt, record { fits = n-fits })) $ pass1 ! (init ! 16 refl (tt, (tt, (record { fits = room .0 }, tt)))) $ pass0 ! $
         -- [_11; …; _0; …; the tokens; what the parameters own]
@@ -399,29 +392,29 @@ module _ {M : Type 1} (𝓤 : URA M) (H : Heap 𝓤) (A : Atoms 𝓤) (W : Given
         move ! (29 ∷ []) $ split ! $ move ! (1 ∷ []) $ split ! $ move ! (3 ∷ 4 ∷ 0 ∷ []) $ opens-slice ! tt T.the-row ys b o $
         -- [the row; the open borrow; obs; auth; true; table's token; heads' fact; true; what table owns; _11; …]
         keep ! (0 ∷ 1 ∷ 2 ∷ 3 ∷ 8 ∷ 5 ∷ 9 ∷ 10 ∷ 11 ∷ 12 ∷ 13 ∷ 14 ∷ 15 ∷ 16 ∷ 17 ∷ 18 ∷ 19 ∷ 20 ∷ 21 ∷ 22 ∷ 23 ∷ 24 ∷ 25 ∷ 26 ∷ 27 ∷ 28 ∷ 29 ∷ 30 ∷ 31 ∷ 32 ∷ []) $
-        by ! (begun l₀ l₁ l₂ l₃ l₄ l₅ l₆ l₇ l₈ l₉ l₁₀ l₁₁)))))))))))))
+        by ! (begun 𝓣 fm due-known next-known l₀ l₁ l₂ l₃ l₄ l₅ l₆ l₇ l₈ l₉ l₁₀ l₁₁)))))))))))))
 
 module _ {M : Type 1} (𝓤 : URA M) (H : Heap 𝓤) (A : Atoms 𝓤) (W : Given 𝓤 H A) (mem : Memory → SProp 𝓤) (run : Routine → Fun 𝓤) (𝓣 : Tables 𝓤 H)
     (due-known : Triple 𝓤 (𝓣 .C #index·due-of) (DueOf 𝓤 H A mem run)) (next-known : Triple 𝓤 (𝓣 .C #index·next-head) (NextHead 𝓤 H A mem run)) where
-  index-walks : FmC 𝓤 H (W .laws) (𝓣 .C) → Walks 𝓤 H A f.ended stayed (WpFn 𝓤 H (𝓣 .C) (𝓣 .Λ) spelt) (f.clauses 𝓤 H A mem run)
-  index-walks fm = walked 𝓤 H A f.ended stayed (f.clauses 𝓤 H A mem run) (WpFn 𝓤 H (𝓣 .C) (𝓣 .Λ) spelt)
+  walks : FmC 𝓤 H (W .laws) (𝓣 .C) → Walks 𝓤 H A f.ended stayed (WpFn 𝓤 H (𝓣 .C) (𝓣 .Λ) function) (f.clauses 𝓤 H A mem run)
+  walks fm = walked 𝓤 H A f.ended stayed (f.clauses 𝓤 H A mem run) (WpFn 𝓤 H (𝓣 .C) (𝓣 .Λ) function)
       (λ κs. (slice-vals, (uint-vals w64, (slice-vals, tt)))) (λ κs. (shr-slice-tells (named 0) (κs .0) i16, (uint-tells w64, (mut-slice-tells (named 1) (κs .1 .0) T.the-row, tt))))
       (λ κs qs bounds a g are. via 𝓤 _ (fst∗ 𝓤 _ (emp 𝓤)) (walk 𝓤 H A W mem run (κs .0) (κs .1 .0) (qs .0) (qs .1 .0) (a .0) (a .1 .0) (are .1 .0 .1) (a .1 .1 .0 .ptr .0) (a .1 .1 .0 .ptr .1) (a .1 .1 .0 .name) (a .1 .1 .0 .now) (are .0 .0 .1) (are .1 .1 .0 .0 .1) 𝓣 fm due-known next-known))
 
   goes : AllGo 𝓤 H A W 2 (f.signature .params) (f.ended .kept) stayed
   goes = (goes-none-slice 𝓤 H A W 2 (0 ∷ []) tt (plain (λ _. i16)) yes, (goes-none 𝓤 H A W 2 (λ _. usize) yes (λ κs x f. refl), (goes-slice 𝓤 H A W 2 1 tt (plain (λ _. T.the-row)), tt)))
 
-  index-meets : Meets 𝓤 H A f.signature (WpFn 𝓤 H (𝓣 .C) (𝓣 .Λ) code.function) (f.spec 𝓤 H A mem run)
-  index-meets =
-      subst (λ (p : Fn). Meets 𝓤 H A f.signature (WpFn 𝓤 H (𝓣 .C) (𝓣 .Λ) p) (f.spec 𝓤 H A mem run)) spelt-is
+  meets : Meets 𝓤 H A f.signature (WpFn 𝓤 H (𝓣 .C) (𝓣 .Λ) code.function) (f.spec 𝓤 H A mem run)
+  meets =
+      subst (λ (p : Fn). Meets 𝓤 H A f.signature (WpFn 𝓤 H (𝓣 .C) (𝓣 .Λ) p) (f.spec 𝓤 H A mem run)) function-is
       (walk-meets 𝓤 H A f.ended stayed W goes (f.clauses 𝓤 H A mem run)
-      (WpFn 𝓤 H (𝓣 .C) (𝓣 .Λ) spelt) (WpFn-mono 𝓤 H (W .laws) 𝓣 spelt) (index-walks (fmOf 𝓤 H (W .laws) 𝓣)))
+      (WpFn 𝓤 H (𝓣 .C) (𝓣 .Λ) function) (WpFn-mono 𝓤 H (W .laws) 𝓣 function) (walks (fmOf 𝓤 H (W .laws) 𝓣)))
 
 pub index-spec : {M : Type 1} → stated.statement M
 unfolding code.routine tablesOf
 index-spec 𝓤 H 𝓜 𝓖 𝓡 =
     entered 𝓤 H (tripleOf 𝓤 H (𝓖 .A) f.signature (f.spec 𝓤 H (𝓖 .A) (𝓜 .mem) (𝓡 .run)))
     (tables 𝓤 H 𝓜 𝓡 code.env .C) (tables 𝓤 H 𝓜 𝓡 code.env .Λ) #index·index code.function (code.unfolded 𝓤 H 𝓜 𝓡)
-    (index-meets 𝓤 H (𝓖 .A) (givenOf 𝓤 H 𝓜 𝓖) (𝓜 .mem) (𝓡 .run) (tablesOf 𝓤 H 𝓜 (tables 𝓤 H 𝓜 𝓡 code.env))
+    (meets 𝓤 H (𝓖 .A) (givenOf 𝓤 H 𝓜 𝓖) (𝓜 .mem) (𝓡 .run) (tablesOf 𝓤 H 𝓜 (tables 𝓤 H 𝓜 𝓡 code.env))
     (cited 𝓤 H (DueOf 𝓤 H (𝓖 .A) (𝓜 .mem) (𝓡 .run)) 𝓜 𝓡 code.env #index·due-of h-def.routine code.calls-index·due-of (h-thm.met 𝓤 H 𝓜 𝓖 𝓡))
     (cited 𝓤 H (NextHead 𝓤 H (𝓖 .A) (𝓜 .mem) (𝓡 .run)) 𝓜 𝓡 code.env #index·next-head g-def.routine code.calls-index·next-head (g-thm.met 𝓤 H 𝓜 𝓖 𝓡)))

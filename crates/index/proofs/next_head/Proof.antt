@@ -1,6 +1,6 @@
 -- `next_head` meets its contract: what is passed of the group, and the elements that are left, give the same head in every turn.
-use mathlib.Core.Path.{_≡_, refl, sym, _∙_}
-use Prim.Native.Nat.{_≤_, _+_, _-_}
+use mathlib.Core.Path.{_≡_, sym, _∙_}
+use Prim.Native.Nat.{_≤_, _-_}
 use borrow.Author.Needs.{needs}
 use native.Mathlib.Nat.{sub-self}
 use native.Mathlib.Omega.{arith}
