@@ -3,3 +3,4 @@ pub mod Lists
 pub mod Search
 pub mod Options
 pub mod Counting
+pub mod Runs

@@ -25,7 +25,7 @@ use Rattle.theory.specs.Formula.{Clause, Formula, clauses, push}
 use Rattle.theory.specs.Table.{zeros, check}
 use Rattle.theory.specs.Calls.{over, IndexCall, indexRefused, indexChecked, indexCall}
 use Rattle.theory.specs.Heads.{head, headsFrom, headsOf}
-use Rattle.theory.proofs.Heads.{clauses-zeros, heads-length, rest-at}
+use Rattle.theory.proofs.Heads.{clauses-zeros, heads-zeros, rest-at}
 use Rattle.index.specs.declared.Next.{Next}
 use Rattle.index.specs.declared.Due.{Due}
 use Rattle.index.specs.Index.{nextFrom, nextHead, headsAt, dueRefused, dueChecked, dueOf, called}
@@ -97,7 +97,7 @@ module _ (n : ℕ) (t : List ℤ) (hs : List Head) where
               (cond b (indexRefused (refusal HeadsShort 0) hs) (record { answer = indexing.Indexed; heads = over (zeros t) (headsOf t) hs }))
           by-room true e = refl
           by-room false e =
-              let l : length (headsOf t) ≡ zeros t = heads-length 0 (clauses t) ∙ clauses-zeros t in
+              let l : length (headsOf t) ≡ zeros t = heads-zeros t in
               let r : zeros t ≤ length hs = ltb-false _ _ e in
               rw (heads-made t) (ap (called indexing.Indexed) (sets-eq (headsOf t) hs 0 (omega arith) ∙ rw (l, zero-add)))
 

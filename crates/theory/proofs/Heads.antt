@@ -1,21 +1,21 @@
 -- The heads of a table's groups: they cut the table into its groups, and each has the literals of its group.
-use mathlib.Core.Path.{_≡_, refl, ap, _∙_}
-use mathlib.Core.Bool.{Bool, true, false}
-use mathlib.Core.List.{List, [], _∷_, map}
+use mathlib.Core.Path.{_≡_, refl, ap, sym, _∙_}
+use mathlib.Core.Bool.{Bool, false}
+use mathlib.Core.List.{List, [], _∷_, _++_, map}
 use Prim.Native.Nat.{ℕ, zero, suc, _+_, _<_}
 use native.Mathlib.Decide.{decLt}
 use native.Mathlib.Omega.{arith}
 use lib.Dec.{eqb·suc-zero}
 use lib.IntN.{ℤ, negsuc, pos as posℤ}
 use lib.ListN.{length, getD, take, drop, length-drop}
-use lib.Seq.{drop-drop, getD-drop}
-use Rattle.general.specs.Booleans.{true-not-false}
+use lib.Seq.{drop-drop, getD-drop, split-at}
 use Rattle.literal.specs.declared.Literal.{Literal}
 use Rattle.literal.specs.declared.Literal.the-variants.{Pos, Neg}
 use Rattle.literal.specs.Literal.{literalOf}
 use Rattle.theory.specs.Formula.{Clause, Formula, clauses, push}
 use Rattle.theory.specs.Table.{zeros, endsOpen}
-use Rattle.theory.specs.Heads.{head, headsFrom, headAt, HeadOf}
+use Rattle.theory.proofs.Tables.{endsOpen-append, first-clause}
+use Rattle.theory.specs.Heads.{head, headsFrom, headsOf, headAt, HeadOf}
 
 -- the first clause of a table, and the clauses after it
 pub record Front (t : List ℤ) (c : Clause) (f : Formula) : Type 0 where
@@ -53,34 +53,30 @@ clauses-zeros (posℤ zero ∷ t) = omega (arith, clauses-zeros t)
 clauses-zeros (posℤ (suc p) ∷ t) = rw (eqb·suc-zero p) (omega (arith, push-length (Pos (suc p)) (clauses t), clauses-zeros t))
 clauses-zeros (negsuc p ∷ t) = rw (eqb·suc-zero p) (omega (arith, push-length (Neg (suc p)) (clauses t), clauses-zeros t))
 
-pub heads-length : (s : ℕ) (f : Formula) → length (headsFrom s f) ≡ length f
+heads-length : (s : ℕ) (f : Formula) → length (headsFrom s f) ≡ length f
 unfolding headsFrom
 heads-length s [] = refl
 heads-length s (c ∷ f) = ap suc (heads-length _ f)
+
+pub heads-zeros : (t : List ℤ) → length (headsOf t) ≡ zeros t
+heads-zeros t = heads-length 0 (clauses t) ∙ clauses-zeros t
 
 -- the clauses after the first one, which begins at s
 pub rest-at : (t : List ℤ) (s : ℕ) (c : Clause) (f : Formula) → clauses (drop s t) ≡ c ∷ f → clauses (drop (s + length c + 1) t) ≡ f
 rest-at t s c f e = let k : s + length c + 1 ≡ s + suc (length c) = omega arith in rw (k, ← drop-drop (suc (length c)) s t) (front (drop s t) c f e .rest)
 
 -- a closed table without a clause is empty
-some-clause : (t : List ℤ) → endsOpen true t ≡ false → 0 < zeros t
-unfolding endsOpen zeros
-some-clause [] e = absurd (true-not-false refl e)
-some-clause (posℤ zero ∷ t) e = omega arith
-some-clause (posℤ (suc p) ∷ t) e = omega (arith, some-clause t (rw (eqb·suc-zero p) at e))
-some-clause (negsuc p ∷ t) e = omega (arith, some-clause t (rw (eqb·suc-zero p) at e))
-
 no-clause : (t : List ℤ) → endsOpen false t ≡ false → clauses t ≡ [] → length t ≡ 0
 unfolding endsOpen
 no-clause [] e h = refl
-no-clause (x ∷ t) e h = absurd (omega (arith, some-clause (x ∷ t) e, clauses-zeros (x ∷ t), ap length h))
+no-clause (x ∷ t) e h = absurd (omega (arith, ap length h, ap length (first-clause (x ∷ t) e .2)))
 
 -- after a 0 a table ends as it does from its start
 closed-after : (t : List ℤ) (b : Bool) (i : ℕ) → i < length t → getD t i (posℤ 1) ≡ posℤ 0 → endsOpen false (drop (suc i) t) ≡ endsOpen b t
 unfolding endsOpen
-closed-after [] b i h e = absurd (omega arith)
-closed-after (x ∷ t) b zero h e = rw e
-closed-after (x ∷ t) b (suc i) h e = closed-after t _ i (omega arith) e
+closed-after t b i h e =
+    let cut : t ≡ take i t ++ (posℤ 0 ∷ drop (suc i) t) = rw e at (split-at t i (posℤ 1) h) in
+    sym (ap (endsOpen b) cut ∙ endsOpen-append b (take i t) _)
 
 closed-at : (t : List ℤ) (s : ℕ) (c : Clause) (f : Formula) → clauses (drop s t) ≡ c ∷ f → endsOpen false (drop s t) ≡ false → endsOpen false (drop (s + length c + 1) t) ≡ false
 closed-at t s c f e o =
