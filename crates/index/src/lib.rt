@@ -1,7 +1,6 @@
 // Index: a head for each group of a table, in a lent list.
 ghost use mathlib.Core.Path.{_≡_};
 ghost use Prim.Native.Nat.{_≤_};
-ghost use lib.ListN.{length};
 ghost use Rattle.literal.specs.Literal.{maxClauses};
 ghost use Rattle.theory.specs.Calls.{indexCall};
 ghost use Rattle.index.specs.Index.{nextHead, dueRefused, dueOf, called, indexArray};
@@ -76,6 +75,7 @@ fn due_of(table: &[i16], n: usize, room: usize) -> Due
     }
 }
 
+// "The index fills a lent list of heads": the loop only stores.
 pub fn index(table: &[i16], n: usize, heads: &mut [Head]) -> Indexing
     ensures { λ r. ⌜ called r (now (heads .exit)) ≡ indexCall n (now (table .entry)) (now (heads .entry)) ⌝ }
 {
