@@ -111,11 +111,13 @@ fn command_of(strip: &[u8], at: usize, turn: Turn, mark: Mark) -> Command
     requires { ⌜ at < length (now strip) ⌝ }
     ensures { λ r. ⌜ r ≡ commandOf (now (strip .entry)) at turn (some mark) ⌝ }
 {
-    if !same(turn, turn_of(mark)) {
+    let in_turn = same(turn, turn_of(mark));
+    let size = operand_bytes(mark);
+    let whole = size < strip.len() - at;
+    if !in_turn {
         return Command::Refused(Refusal::new(Fault::OutOfTurn, at));
     }
-    let size = operand_bytes(mark);
-    if strip.len() - at <= size {
+    if !whole {
         return Command::Refused(Refusal::new(Fault::CutStrip, at));
     }
     Command::Command {
