@@ -52,10 +52,10 @@ use Rattle.theory.proofs.Turn.Laws as E′
 use Rattle.reader.specs.declared.Reader.{Reader}
 use Rattle.reader.proofs.Reader as T
 use Rattle.reader.proofs.Reader.Laws as T′
-use Rattle.strip.proofs.command_at as step
-use Rattle.strip.proofs.command_at.Symbol as step-def
-use Rattle.strip.proofs.command_at.Symbol.{name as #strip·command-at}
-use Rattle.strip.proofs.command_at.Met as step-thm
+use Rattle.reader.proofs.command_at as step
+use Rattle.reader.proofs.command_at.Symbol as step-def
+use Rattle.reader.proofs.command_at.Symbol.{name as #reader·command-at}
+use Rattle.reader.proofs.command_at.Met as step-thm
 use Rattle.reader.proofs.command.Key.{name as #reader·command}
 use Rattle.reader.proofs.command as f
 use Rattle.reader.proofs.command.Statement as stated
@@ -146,7 +146,7 @@ module _ {M : Type 1} (𝓤 : URA M) (H : Heap 𝓤) (A : Atoms 𝓤) (W : Given
         owned ! E.the-row (Is E.the-row) (EL.makes E.the-type E′.the-plain 𝓤 H A) t (turned ∷ []) turn-is $ fjoin ! $
         move ! (2 ∷ 0 ∷ []) $ fjoin ! $ frame ! $ done !
 
-    module _ (C : Calls 𝓤 H) (Λ : Loops 𝓤 H) (fm : FmC 𝓤 H (W .laws) C) (known : Triple 𝓤 (C #strip·command-at) (StepAt 𝓤 H A mem run)) where
+    module _ (C : Calls 𝓤 H) (Λ : Loops 𝓤 H) (fm : FmC 𝓤 H (W .laws) C) (known : Triple 𝓤 (C #reader·command-at) (StepAt 𝓤 H A mem run)) where
       walk : Holds (hasTy (T′.mir (named 0)) mach) × WT mach →
           ent 𝓤 (onEntry 𝓤 H A f.signature (κ, tt) (q, tt) (d, (t, tt)) at) (WpFn 𝓤 H C Λ code.function (mach ∷ turned ∷ []) Post)
       walk wt =
@@ -171,7 +171,7 @@ module _ {M : Type 1} (𝓤 : URA M) (H : Heap 𝓤) (A : Atoms 𝓤) (W : Given
           by ! (exits r u e))))))))))
 
 module _ {M : Type 1} (𝓤 : URA M) (H : Heap 𝓤) (A : Atoms 𝓤) (W : Given 𝓤 H A) (mem : Memory → SProp 𝓤) (run : Routine → Fun 𝓤) where
-  command-walks : (C : Calls 𝓤 H) (Λ : Loops 𝓤 H) → FmC 𝓤 H (W .laws) C → Triple 𝓤 (C #strip·command-at) (StepAt 𝓤 H A mem run) →
+  command-walks : (C : Calls 𝓤 H) (Λ : Loops 𝓤 H) → FmC 𝓤 H (W .laws) C → Triple 𝓤 (C #reader·command-at) (StepAt 𝓤 H A mem run) →
       Walks 𝓤 H A f.ended stayed (WpFn 𝓤 H C Λ code.function) (f.clauses 𝓤 H A mem run)
   command-walks C Λ fm known =
       walked 𝓤 H A f.ended stayed (f.clauses 𝓤 H A mem run) (WpFn 𝓤 H C Λ code.function)
@@ -182,7 +182,7 @@ module _ {M : Type 1} (𝓤 : URA M) (H : Heap 𝓤) (A : Atoms 𝓤) (W : Given
       (LL.lawful (T.the-type (namedLft 1 0 tt κs)) (T′.the-laws (namedLft 1 0 tt κs)) 𝓤 H A W .typed (a .0) _ (are .0) .0)))
 
 command-meets : {M : Type 1} (𝓤 : URA M) (H : Heap 𝓤) (A : Atoms 𝓤) (W : Given 𝓤 H A) (mem : Memory → SProp 𝓤) (run : Routine → Fun 𝓤) (𝓣 : Tables 𝓤 H) →
-    Triple 𝓤 (𝓣 .C #strip·command-at) (StepAt 𝓤 H A mem run) →
+    Triple 𝓤 (𝓣 .C #reader·command-at) (StepAt 𝓤 H A mem run) →
     Meets 𝓤 H A f.signature (WpFn 𝓤 H (𝓣 .C) (𝓣 .Λ) code.function) (f.spec 𝓤 H A mem run)
 command-meets 𝓤 H A W mem run 𝓣 known =
     walk-meets 𝓤 H A f.ended stayed W (goes-none 𝓤 H A W 1 B yes (λ κs x f. refl), (goes-none 𝓤 H A W 1 (λ _. E.the-row) yes (λ κs x f. refl), tt))
@@ -195,4 +195,4 @@ command-spec 𝓤 H 𝓜 𝓖 𝓡 =
     entered 𝓤 H (tripleOf 𝓤 H (𝓖 .A) f.signature (f.spec 𝓤 H (𝓖 .A) (𝓜 .mem) (𝓡 .run)))
     (tables 𝓤 H 𝓜 𝓡 code.env .C) (tables 𝓤 H 𝓜 𝓡 code.env .Λ) #reader·command code.function (code.unfolded 𝓤 H 𝓜 𝓡)
     (command-meets 𝓤 H (𝓖 .A) (givenOf 𝓤 H 𝓜 𝓖) (𝓜 .mem) (𝓡 .run) (tablesOf 𝓤 H 𝓜 (tables 𝓤 H 𝓜 𝓡 code.env))
-    (cited 𝓤 H (StepAt 𝓤 H (𝓖 .A) (𝓜 .mem) (𝓡 .run)) 𝓜 𝓡 code.env #strip·command-at step-def.routine code.calls-strip·command-at (step-thm.met 𝓤 H 𝓜 𝓖 𝓡)))
+    (cited 𝓤 H (StepAt 𝓤 H (𝓖 .A) (𝓜 .mem) (𝓡 .run)) 𝓜 𝓡 code.env #reader·command-at step-def.routine code.calls-reader·command-at (step-thm.met 𝓤 H 𝓜 𝓖 𝓡)))
