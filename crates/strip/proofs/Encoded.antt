@@ -26,7 +26,7 @@ use Rattle.theory.specs.Formula.{Clause, Formula}
 use Rattle.theory.specs.Strip.{turnOf, operandBytes, operandAt, commandAt, progress, entered, obey, Decoding, storing, readFrom}
 use Rattle.theory.specs.Encoding.{Item, chapter, group, commandBytes, entryBytes, itemBytes, groups, tableOf, entries, Bytes}
 use Rattle.theory.proofs.Tables.{InRange}
-use Rattle.strip.proofs.Commands.{bytes-long, bytes-rest, bytes-command, word-at}
+use Rattle.reader.proofs.Commands.{bytes-long, bytes-rest, bytes-command, word-at}
 use Rattle.strip.proofs.Sound.{pending, with, Allows, Left}
 
 rest-range : (n : ℕ) (l : Literal) (c : Clause) (f : Formula) → InRange n ((l ∷ c) ∷ f) → InRange n (c ∷ f)

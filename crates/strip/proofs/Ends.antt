@@ -30,7 +30,7 @@ use Rattle.theory.specs.declared.Obeyed.{Obeyed}
 use Rattle.theory.specs.declared.Obeyed.the-variants as obeyed
 use Rattle.theory.specs.Strip.{turnOf, same, progress, obey, Decoding, storing, onward, follow, finish, readFrom, commandAt, maxStrip, readStrip}
 use Rattle.theory.specs.Encoding.{tableOf, entries}
-use Rattle.strip.proofs.Commands.{same-turn, NotShort, Stands, Says, command-says, command-bytes}
+use Rattle.reader.proofs.Commands.{same-turn, NotShort, Stands, Says, command-says, command-bytes}
 use Rattle.strip.proofs.Sound.{Sound, begun-sound, elements, with, Left, Keeps, obey-keeps}
 
 module _ (s : List ℕ) (room : ℕ) where

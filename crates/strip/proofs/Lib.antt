@@ -1,4 +1,3 @@
-pub mod Commands
 pub mod Sound
 pub mod Ends
 pub mod Encoded

@@ -25,7 +25,7 @@ use Rattle.theory.specs.declared.Stored.{Stored}
 use Rattle.theory.specs.declared.Stored.the-variants.{Nothing, Element}
 use Rattle.theory.specs.declared.Obeyed.the-variants as obeyed
 use Rattle.theory.specs.Strip.{same, progress, commandAt, obey, Decoding, notRead, storing, onward, follow, readFrom, maxStrip, readStrip}
-use Rattle.strip.proofs.Commands.{Stands, Says, command-says, command-bytes}
+use Rattle.reader.proofs.Commands.{Stands, Says, command-says, command-bytes}
 use Rattle.strip.proofs.Sound.{pending, Sound, begun-sound, elements, obey-keeps}
 
 module _ (s : List ℕ) (room : ℕ) where

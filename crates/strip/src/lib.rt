@@ -1,13 +1,12 @@
 // Reading a strip: its commands one by one, the numbers that they change, and the table that they write.
-ghost use mathlib.Core.Option.{some};
 ghost use mathlib.Core.Path.{_≡_};
-ghost use Prim.Native.Nat.{_+_, _*_, _≤_, _<_};
+ghost use Prim.Native.Nat.{_≤_};
 ghost use lib.ListN.{length, take};
 ghost use Rattle.literal.specs.Literal.{maxVariables};
 ghost use Rattle.receipt.specs.Receipt.{refusal};
 ghost use Rattle.theory.specs.declared.Command.the-variants as command;
 ghost use Rattle.theory.specs.declared.Obeyed.the-variants.{Goes};
-ghost use Rattle.theory.specs.Strip.{operandBytes, turnOf, same, operandAt, commandOf, commandAt, progress, entered, obey, notRead, readStrip};
+ghost use Rattle.theory.specs.Strip.{progress, entered, obey, notRead, readStrip};
 ghost use Rattle.theory.specs.Calls.{over, readCall};
 ghost use Rattle.strip.specs.Decoding.{decodingOf, called};
 use literal::Literal;
@@ -22,128 +21,6 @@ use theory::Stored;
 use theory::Turn;
 
 const MAX_STRIP: usize = 16384;
-
-// Commands ------------------------------------------------------------------------------------------------------------
-
-// The turn that a command is allowed in.
-fn turn_of(mark: Mark) -> Turn
-    ensures { λ r. ⌜ r ≡ turnOf mark ⌝ }
-{
-    match mark {
-        Mark::Placements => Turn::Start,
-        Mark::Chapter => Turn::Outside,
-        Mark::Opens => Turn::Outside,
-        Mark::Taken => Turn::Inside,
-        Mark::LeftOut => Turn::Inside,
-        Mark::Closes => Turn::Inside,
-        Mark::Ends => Turn::Outside,
-    }
-}
-
-// The number of bytes of a command's operand.
-fn operand_bytes(mark: Mark) -> usize
-    ensures { λ r. ⌜ r ≡ operandBytes mark ⌝ }
-{
-    match mark {
-        Mark::Placements => 2,
-        Mark::Chapter => 1,
-        Mark::Opens => 0,
-        Mark::Taken => 2,
-        Mark::LeftOut => 2,
-        Mark::Closes => 0,
-        Mark::Ends => 0,
-    }
-}
-
-fn same(turn: Turn, other: Turn) -> bool
-    ensures { λ r. ⌜ r ≡ same turn other ⌝ }
-{
-    match turn {
-        Turn::Start => match other {
-            Turn::Start => true,
-            Turn::Outside => false,
-            Turn::Inside => false,
-            Turn::After => false,
-        },
-        Turn::Outside => match other {
-            Turn::Start => false,
-            Turn::Outside => true,
-            Turn::Inside => false,
-            Turn::After => false,
-        },
-        Turn::Inside => match other {
-            Turn::Start => false,
-            Turn::Outside => false,
-            Turn::Inside => true,
-            Turn::After => false,
-        },
-        Turn::After => match other {
-            Turn::Start => false,
-            Turn::Outside => false,
-            Turn::Inside => false,
-            Turn::After => true,
-        },
-    }
-}
-
-// "operands high byte first"
-fn word(high: u8, low: u8) -> u16
-    ensures { λ r. ⌜ r ≡ high * 256 + low ⌝ }
-{
-    high as u16 * 256 + low as u16
-}
-
-fn operand_at(strip: &[u8], at: usize, size: usize) -> u16
-    requires { ⌜ at + size < length (now strip) ⌝ }
-    ensures { λ r. ⌜ r ≡ operandAt (now (strip .entry)) at size ⌝ }
-{
-    if size == 0 {
-        return 0;
-    }
-    if size == 1 {
-        return word(0, strip[at + 1]);
-    }
-    word(strip[at + 1], strip[at + 2])
-}
-
-// A mark at an index of the strip: "22, 21".
-fn command_of(strip: &[u8], at: usize, turn: Turn, mark: Mark) -> Command
-    requires { ⌜ at < length (now strip) ⌝ }
-    ensures { λ r. ⌜ r ≡ commandOf (now (strip .entry)) at turn (some mark) ⌝ }
-{
-    let in_turn = same(turn, turn_of(mark));
-    let size = operand_bytes(mark);
-    let whole = size < strip.len() - at;
-    if !in_turn {
-        return Command::Refused(Refusal::new(Fault::OutOfTurn, at));
-    }
-    if !whole {
-        return Command::Refused(Refusal::new(Fault::CutStrip, at));
-    }
-    Command::Command {
-        mark,
-        operand: operand_at(strip, at, size),
-        next: at + 1 + size,
-    }
-}
-
-// The command at an index of the strip: 20, where its byte is no mark.
-pub fn command_at(strip: &[u8], at: usize, turn: Turn) -> Command
-    requires { ⌜ at < length (now strip) ⌝ }
-    ensures { λ r. ⌜ r ≡ commandAt (now (strip .entry)) at turn ⌝ }
-{
-    let byte = strip[at];
-    match byte {
-        0x50 => command_of(strip, at, turn, Mark::Placements),
-        0x43 => command_of(strip, at, turn, Mark::Chapter),
-        0x47 => command_of(strip, at, turn, Mark::Opens),
-        0x54 => command_of(strip, at, turn, Mark::Taken),
-        0x4C => command_of(strip, at, turn, Mark::LeftOut),
-        0x45 => command_of(strip, at, turn, Mark::Closes),
-        0x5A => command_of(strip, at, turn, Mark::Ends),
-        _ => Command::Refused(Refusal::new(Fault::UnknownMark, at)),
-    }
-}
 
 // What a command does -------------------------------------------------------------------------------------------------
 
@@ -266,7 +143,7 @@ pub fn decode(strip: &[u8], room: usize) -> Decoded
     let mut at: usize = 0;
     while at < strip.len() {
         let turn = progress.turn;
-        let found = command_at(strip, at, turn);
+        let found = reader::command_from(strip, at, turn);
         let Command::Command {
             mark,
             operand,
@@ -291,7 +168,7 @@ pub fn decode(strip: &[u8], room: usize) -> Decoded
         }
     }
     let turn = progress.turn;
-    if !same(turn, Turn::After) {
+    if !reader::same(turn, Turn::After) {
         return refused(Fault::CutStrip, strip.len());
     }
     Decoded {

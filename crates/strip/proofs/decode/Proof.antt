@@ -31,7 +31,7 @@ returns-2 : tie.Need-returns-2 Inv-loop μ-loop
 returns-2 c =
     let k = c .before .enum-told .given .1 in
     let f = c .before .before .before in
-    c .passed-on .ensures _ k ∙ no-command (f .before .before .loop .inv) (f .before .loop-test .taken) _ (sym k ∙ f .command-at .ensures)
+    c .passed-on .ensures _ k ∙ no-command (f .before .before .loop .inv) (f .before .loop-test .taken) _ (sym k ∙ f .command-from .ensures)
 
 -- a command
 commanded : (c : tie.After-found Inv-loop μ-loop) →
@@ -40,7 +40,7 @@ commanded : (c : tie.After-found Inv-loop μ-loop) →
     Commanded (l .before .before .before .args .strip .now) (l .before .before .before .args .room) (l .loop .at) (l .loop .used) (l .loop .progress) (l .loop .cells) (m .0) (m .1 .0) (m .1 .1 .0)
 commanded c =
     let r = c .before .before .before in
-    record { reached = r .before .loop .inv; inside = r .loop-test .taken; command = sym (c .found .given .1) ∙ c .before .before .command-at .ensures }
+    record { reached = r .before .loop .inv; inside = r .loop-test .taken; command = sym (c .found .given .1) ∙ c .before .before .command-from .ensures }
 
 -- that is not obeyed
 returns-3 : tie.Need-returns-3 Inv-loop μ-loop

@@ -4,8 +4,8 @@ use borrow.Author.Needs.{needs}
 use borrow.Author.Tests.{ne-eqb}
 use Rattle.general.specs.Search.{find}
 use Rattle.theory.specs.Strip.{markOf, commandAt}
-use Rattle.strip.proofs.command_at.Statement.{statement}
-use Rattle.strip.proofs.command_at.Tie as tie
+use Rattle.reader.proofs.command_at.Statement.{statement}
+use Rattle.reader.proofs.command_at.Tie as tie
 
 pub command-at-spec : {M : Type 1} → statement M
 unfolding commandAt markOf find

@@ -3,8 +3,8 @@ use mathlib.Core.Path.{_∙_}
 use borrow.Author.Needs.{needs}
 use borrow.Author.Tests.{eq-eqb, ne-eqb}
 use native.Mathlib.Nat.{zero-mul, zero-add}
-use Rattle.strip.proofs.operand_at.Statement.{statement}
-use Rattle.strip.proofs.operand_at.Tie as tie
+use Rattle.reader.proofs.operand_at.Statement.{statement}
+use Rattle.reader.proofs.operand_at.Tie as tie
 
 pub operand-at-spec : {M : Type 1} → statement M
 operand-at-spec =

@@ -6,8 +6,8 @@ use borrow.Author.Tests.{ltb-true, ltb-false, le-leb, lt-leb, not-true, not-fals
 use native.Mathlib.Omega.{arith}
 use lib.ListN.{length}
 use Rattle.theory.specs.Strip.{same, turnOf, operandBytes}
-use Rattle.strip.proofs.command_of.Statement.{statement}
-use Rattle.strip.proofs.command_of.Tie as tie
+use Rattle.reader.proofs.command_of.Statement.{statement}
+use Rattle.reader.proofs.command_of.Tie as tie
 
 turned : (c : tie.After-same) → let a = c .before .before .before .args in same (a .turn) (turnOf (a .mark)) ≡ c .same .result
 turned c = sym (c .same .ensures ∙ ap (same (c .before .before .before .args .turn)) (c .before .turn-of .ensures))
