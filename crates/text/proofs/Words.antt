@@ -1,4 +1,4 @@
--- Lines made by appending: a word, further words after single spaces, then the newline.
+-- Words after single spaces, made by appending.
 use mathlib.Core.Path.{_≡_, refl, ap, sym, _∙_}
 use mathlib.Core.List.{List, [], _∷_, _++_, map, append-assoc, append-nil, map-append}
 use Prim.Native.Nat.{ℕ, suc, _+_, _*_, _≤_, _<_, zero-le}
@@ -8,10 +8,10 @@ use native.Mathlib.Omega.{arith}
 use lib.ListN.{length, take, getD}
 use lib.Seq.{take-suc, take-all}
 use Rattle.io.specs.Digits.{digits, Fewest}
-use Rattle.report.specs.Appending.{Appended}
-use Rattle.report.specs.Text.{codes, decimal, spaced, line}
-use Rattle.report.proofs.Appending.{append-nothing, append-both}
-use Rattle.report.proofs.Digits.{digits-decimal}
+use Rattle.general.specs.Appending.{Appended}
+use Rattle.text.specs.Text.{codes, decimal, spaced}
+use Rattle.general.specs.Appending.{append-nothing, append-both}
+use Rattle.text.proofs.Digits.{digits-decimal}
 
 -- Words after spaces ----------------------------------------------------------------------------------------------
 
@@ -38,10 +38,6 @@ pub words-appended : {l₀ l₁ l₂ : List ℕ} {at p q : ℕ} (a b : List (Lis
     Appended l₀ at (spaced (a ++ b)) l₂ q
 words-appended a b f s = rw (spaced-append a b) (append-both f s)
 
-pub line-appended : {l₀ l₁ l₂ l₃ : List ℕ} {at p q r : ℕ} (w : List ℕ) (ws : List (List ℕ)) → Appended l₀ at w l₁ p → Appended l₁ p (spaced ws) l₂ q →
-    Appended l₂ q (codes "\n") l₃ r → Appended l₀ at (line w ws) l₃ r
-line-appended w ws a b c = append-both a (append-both b c)
-
 -- A loop that appends a word for each element of a list ---------------------------------------------------------
 
 -- the first i elements of s are written from index `at` on, each in at most k bytes
@@ -52,9 +48,9 @@ module _ {A : Type 0} (g : A → List ℕ) (k : ℕ) (s : List A) (l₀ : List �
     pub short : next ≤ at + k * i
     pub words : Appended l₀ at (spaced (map g (take i s))) l next
 
-  pub list-begun : Listing l₀ at 0
+  pub list-begun : at ≤ length l₀ → Listing l₀ at 0
   unfolding spaced
-  list-begun = record { reached = zero-le; long = refl; short = omega arith; words = append-nothing l₀ at }
+  list-begun h = record { reached = zero-le; long = refl; short = omega arith; words = append-nothing l₀ at h }
 
   module _ {l : List ℕ} {next i : ℕ} (w : Listing l next i) where
     pub list-turned : {l₁ : List ℕ} {p : ℕ} (d : A) → i < length s → length l₁ ≡ length l → p ≤ next + k → Appended l next (spaced (g (getD s i d) ∷ [])) l₁ p →
