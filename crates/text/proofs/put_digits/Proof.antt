@@ -4,11 +4,11 @@ use mathlib.Core.Path.{_≡_, _∙_, ap}
 use native.Mathlib.Omega.{arith}
 use borrow.Author.Needs.{needs}
 use lib.ListN.{length, take}
-use Rattle.report.specs.Text.{decimal}
-use Rattle.report.proofs.Digits.{digits-decimal, length-decimal}
-use Rattle.report.proofs.Lines.{digits-appended}
-use Rattle.report.proofs.put_digits.Statement.{statement}
-use Rattle.report.proofs.put_digits.Tie as tie
+use Rattle.text.specs.Text.{decimal}
+use Rattle.text.proofs.Digits.{digits-decimal, length-decimal}
+use Rattle.text.proofs.Words.{digits-appended}
+use Rattle.text.proofs.put_digits.Statement.{statement}
+use Rattle.text.proofs.put_digits.Tie as tie
 
 text-is : (c : tie.After-decimal) → take (c .decimal .result) (c .decimal .last .1 .0) ≡ decimal (c .before .before .before .args .value)
 text-is c = c .decimal .ensures .1 .1 ∙ digits-decimal _ _ (c .decimal .ensures .1 .0)

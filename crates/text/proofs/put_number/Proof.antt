@@ -1,9 +1,9 @@
 -- `put_number` meets its contract: the digits follow the space.
 use native.Mathlib.Omega.{arith}
 use borrow.Author.Needs.{needs}
-use Rattle.report.proofs.Lines.{word-appended}
-use Rattle.report.proofs.put_number.Statement.{statement}
-use Rattle.report.proofs.put_number.Tie as tie
+use Rattle.text.proofs.Words.{word-appended}
+use Rattle.text.proofs.put_number.Statement.{statement}
+use Rattle.text.proofs.put_number.Tie as tie
 
 returns : tie.Need-returns
 returns c = (search word-appended, omega arith)

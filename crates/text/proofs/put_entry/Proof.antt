@@ -1,8 +1,8 @@
 -- `put_entry` meets its contract.
 use borrow.Author.Needs.{needs}
-use Rattle.report.proofs.Entries.{negative-entry, other-entry}
-use Rattle.report.proofs.put_entry.Statement.{statement}
-use Rattle.report.proofs.put_entry.Tie as tie
+use Rattle.text.proofs.Entries.{negative-entry, other-entry}
+use Rattle.text.proofs.put_entry.Statement.{statement}
+use Rattle.text.proofs.put_entry.Tie as tie
 
 returns : tie.Need-returns
 returns c =

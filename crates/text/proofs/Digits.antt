@@ -8,7 +8,7 @@ use native.Mathlib.Omega.{arith}
 use borrow.Author.Tests.{lt-ltb, le-ltb}
 use lib.ListN.{length, length-append}
 use Rattle.io.specs.Digits.{glyph, digits, Fewest}
-use Rattle.report.specs.Text.{digit, digitsWithin, decimal}
+use Rattle.text.specs.Text.{digit, digitsWithin, decimal}
 
 one-digit : (f v : ℕ) → v < 10 → digitsWithin (suc f) v ≡ digit v ∷ []
 unfolding digitsWithin

@@ -12,11 +12,11 @@ use mir.Syntax.{w16}
 use mir.Val.{SFits, toZ, ofZ}
 use mir.ValLaws.{toZ-ofZ}
 use Rattle.literal.proofs.Signed.{abs-below}
-use Rattle.report.specs.Appending.{Appended}
-use Rattle.report.specs.Text.{codes, decimal, signed, spaced}
-use Rattle.report.proofs.Appending.{append-both}
-use Rattle.report.proofs.Digits.{length-decimal}
-use Rattle.report.proofs.Lines.{spaced-one, length-spaced}
+use Rattle.general.specs.Appending.{Appended}
+use Rattle.text.specs.Text.{codes, decimal, signed, spaced}
+use Rattle.general.specs.Appending.{append-both}
+use Rattle.text.proofs.Digits.{length-decimal}
+use Rattle.text.proofs.Words.{spaced-one, length-spaced}
 
 spaced-negative : (e : ℤ) → ltZ e (pos 0) ≡ true → spaced (signed e ∷ []) ≡ codes " -" ++ decimal (natAbs e)
 spaced-negative (pos n) t = absurd (omega (arith, ltb-true n 0 t))
