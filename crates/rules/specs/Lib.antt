@@ -1,4 +1,0 @@
-pub mod Look
-pub mod Pairs
-pub mod Pass
-pub mod Code
