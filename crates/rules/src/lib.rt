@@ -1,12 +1,10 @@
 // What the rules of document 01 ask: rules 1 to 6 of one clause as it stands, rules 7 and 8 of two.
 ghost use mathlib.Core.Path.{_≡_};
-ghost use mathlib.Core.Option.{Option·map};
-ghost use Rattle.general.specs.Search.{find};
 ghost use Rattle.theory.specs.Formula.{Clause};
-ghost use Rattle.theory.specs.Rules.{tie, becomesFalse, rule1, rule2, rule3, rule4, rule5, rule6};
+ghost use Rattle.theory.specs.Rules.{tie, becomesFalse, rule1, rule3, rule5, rule6};
 ghost use Rattle.clause.specs.Reading.{Ready, clauseAt, CountsOf};
-ghost use Rattle.clause.specs.Finding.{found, passes};
-ghost use Rattle.rules.specs.Rules.{fit, paired, pairStep, pairRule, ruleAt};
+ghost use Rattle.clause.specs.Finding.{found};
+ghost use Rattle.rules.specs.Rules.{fit, falseWhere, paired, pairStep, pairRule, ruleAt};
 use clause::Found;
 use clause::Next;
 use clause::Test;
@@ -74,18 +72,6 @@ fn rule_1(table: &[i16], values: &[u16; Literal::VARIABLES], from: usize) -> Fit
     }
 }
 
-// 2. One true: the first open entry becomes false.
-fn rule_2(table: &[i16], values: &[u16; Literal::VARIABLES], from: usize) -> Fit
-    requires { ⌜ Ready (now table) (now values) ⌝ }
-    ensures { λ r. ⌜ fit r ≡ rule2 (clauseAt (now (table .entry)) (now (values .entry)) from) ⌝ }
-{
-    if clause::times_at(table, values, from, Literal::TRUE) != 1 {
-        return Fit::Nothing;
-    }
-    let counts = clause::counts_at(table, values, from);
-    becomes_false(clause::first_that(table, values, from, &counts, Test::Open))
-}
-
 // 3. None true, one open: it becomes true.
 fn rule_3(table: &[i16], values: &[u16; Literal::VARIABLES], from: usize) -> Fit
     requires { ⌜ Ready (now table) (now values) ⌝ }
@@ -106,16 +92,22 @@ fn rule_3(table: &[i16], values: &[u16; Literal::VARIABLES], from: usize) -> Fit
     }
 }
 
-// 4. None true, an open entry stands twice with one sign: it becomes false.
-fn rule_4(table: &[i16], values: &[u16; Literal::VARIABLES], from: usize) -> Fit
+// Rules 2 and 4, and the end of 5: where so many are true, the first literal that passes becomes false.
+fn false_where(
+    table: &[i16],
+    values: &[u16; Literal::VARIABLES],
+    from: usize,
+    trues: u16,
+    test: Test,
+) -> Fit
     requires { ⌜ Ready (now table) (now values) ⌝ }
-    ensures { λ r. ⌜ fit r ≡ rule4 (clauseAt (now (table .entry)) (now (values .entry)) from) ⌝ }
+    ensures { λ r. ⌜ fit r ≡ falseWhere trues test (clauseAt (now (table .entry)) (now (values .entry)) from) ⌝ }
 {
-    if clause::times_at(table, values, from, Literal::TRUE) != 0 {
+    if clause::times_at(table, values, from, Literal::TRUE) != trues {
         return Fit::Nothing;
     }
     let counts = clause::counts_at(table, values, from);
-    becomes_false(clause::first_that(table, values, from, &counts, Test::Twice))
+    becomes_false(clause::first_that(table, values, from, &counts, test))
 }
 
 // 5. None true, an entry and its opposite stand: the first entry of a placement other than the first such one becomes false.
@@ -123,20 +115,11 @@ fn rule_5(table: &[i16], values: &[u16; Literal::VARIABLES], from: usize) -> Fit
     requires { ⌜ Ready (now table) (now values) ⌝ }
     ensures { λ r. ⌜ fit r ≡ rule5 (clauseAt (now (table .entry)) (now (values .entry)) from) ⌝ }
 {
-    if clause::times_at(table, values, from, Literal::TRUE) != 0 {
-        return Fit::Nothing;
-    }
     let counts = clause::counts_at(table, values, from);
     let complementary = clause::first_that(table, values, from, &counts, Test::Opposed);
     match complementary {
         Found::Nothing => Fit::Nothing,
-        Found::At(x) => becomes_false(clause::first_that(
-            table,
-            values,
-            from,
-            &counts,
-            Test::Apart(x),
-        )),
+        Found::At(x) => false_where(table, values, from, 0, Test::Apart(x)),
     }
 }
 
@@ -257,9 +240,9 @@ pub fn asks(
 {
     match rule {
         Rule::One => rule_1(table, values, from),
-        Rule::Two => rule_2(table, values, from),
+        Rule::Two => false_where(table, values, from, 1, Test::Open),
         Rule::Three => rule_3(table, values, from),
-        Rule::Four => rule_4(table, values, from),
+        Rule::Four => false_where(table, values, from, 0, Test::Twice),
         Rule::Five => rule_5(table, values, from),
         Rule::Six => rule_6(table, values, from),
         Rule::Pair(pair, g) => pair_rule(table, values, pair, g, from),
