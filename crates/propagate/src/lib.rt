@@ -1,14 +1,15 @@
 // Propagation (settling) of a table: each step is the very one that document 01 picks.
 ghost use mathlib.Core.Path.{_≡_};
-ghost use Prim.Native.Nat.{_≤_};
+ghost use mathlib.Core.Option.{orElse};
+ghost use Prim.Native.Nat.{_+_, _≤_};
 ghost use Rattle.literal.specs.Literal.{maxVariables};
 ghost use Rattle.theory.specs.Formula.{clauses, Within};
 ghost use Rattle.theory.specs.State.{WellFormed};
 ghost use Rattle.theory.specs.Propagation.{firstClause, firstPair, step, settle};
 ghost use Rattle.state.specs.State.{stateOf, InRange};
-ghost use Rattle.clause.specs.Reading.{Ready, clausesFrom};
+ghost use Rattle.clause.specs.Reading.{Ready, Begins, clausesFrom};
 ghost use Rattle.rules.specs.Rules.{pairRule, ruleAt};
-ghost use Rattle.propagate.specs.Code.{answer, settledAs, Begins};
+ghost use Rattle.propagate.specs.Code.{answer, settled};
 use literal::ClauseNumber;
 use literal::Literal;
 use rules::Fit;
@@ -39,7 +40,8 @@ fn first_clause(
     clause: ClauseNumber,
 ) -> Answer
     requires { ⌜ Ready (now table) (now values) ⌝ }
-    requires { ⌜ Begins (now table) from (clause .0) ⌝ }
+    requires { ⌜ Begins (now table) from ⌝ }
+    requires { ⌜ clause .0 ≤ from + 1 ⌝ }
     ensures { λ r. ⌜ answer r ≡ firstClause (ruleAt (now (table .entry)) (now (values .entry)) rule) (clause .0) (clausesFrom (now (table .entry)) (now (values .entry)) from) ⌝ }
 {
     let mut k = clause.0;
@@ -79,47 +81,41 @@ fn first_pair(table: &[i16], values: &[u16; Literal::VARIABLES], rule: PairRule)
     Answer::Nothing
 }
 
-// The lowest of rules 1 to 6 that fits a clause.
-fn ask_one(table: &[i16], values: &[u16; Literal::VARIABLES]) -> Answer
+// What a lower rule asks, or else one of rules 1 to 6 of the first clause that it fits.
+fn else_clause(lower: Answer, table: &[i16], values: &[u16; Literal::VARIABLES], rule: Rule) -> Answer
     requires { ⌜ Ready (now table) (now values) ⌝ }
+    ensures { λ r. ⌜ answer r ≡ orElse (answer lower) (firstClause (ruleAt (now (table .entry)) (now (values .entry)) rule) 1 (clausesFrom (now (table .entry)) (now (values .entry)) 0)) ⌝ }
 {
-    let one = first_clause(table, values, Rule::One, 0, ClauseNumber(1));
-    if let Answer::Asks(_) = one {
-        return one;
+    match lower {
+        Answer::Nothing => first_clause(table, values, rule, 0, ClauseNumber(1)),
+        Answer::Asks(_) => lower,
     }
-    let two = first_clause(table, values, Rule::Two, 0, ClauseNumber(1));
-    if let Answer::Asks(_) = two {
-        return two;
-    }
-    let three = first_clause(table, values, Rule::Three, 0, ClauseNumber(1));
-    if let Answer::Asks(_) = three {
-        return three;
-    }
-    let four = first_clause(table, values, Rule::Four, 0, ClauseNumber(1));
-    if let Answer::Asks(_) = four {
-        return four;
-    }
-    let five = first_clause(table, values, Rule::Five, 0, ClauseNumber(1));
-    if let Answer::Asks(_) = five {
-        return five;
-    }
-    first_clause(table, values, Rule::Six, 0, ClauseNumber(1))
 }
 
-// The step that document 01 picks.
+// What a lower rule asks, or else rule 7 or 8 of the first pair that it fits.
+fn else_pair(lower: Answer, table: &[i16], values: &[u16; Literal::VARIABLES], rule: PairRule) -> Answer
+    requires { ⌜ Ready (now table) (now values) ⌝ }
+    ensures { λ r. ⌜ answer r ≡ orElse (answer lower) (firstPair (pairRule rule) 1 (clausesFrom (now (table .entry)) (now (values .entry)) 0)) ⌝ }
+{
+    match lower {
+        Answer::Nothing => first_pair(table, values, rule),
+        Answer::Asks(_) => lower,
+    }
+}
+
+// The step that document 01 picks: the lowest rule that fits.
 pub fn ask(table: &[i16], values: &[u16; Literal::VARIABLES]) -> Answer
     requires { ⌜ Ready (now table) (now values) ⌝ }
     ensures { λ r. ⌜ answer r ≡ step (clauses (now (table .entry))) (stateOf (now (values .entry))) ⌝ }
 {
-    let one = ask_one(table, values);
-    if let Answer::Asks(_) = one {
-        return one;
-    }
-    let seven = first_pair(table, values, PairRule::Seven);
-    if let Answer::Asks(_) = seven {
-        return seven;
-    }
-    first_pair(table, values, PairRule::Eight)
+    let one = first_clause(table, values, Rule::One, 0, ClauseNumber(1));
+    let two = else_clause(one, table, values, Rule::Two);
+    let three = else_clause(two, table, values, Rule::Three);
+    let four = else_clause(three, table, values, Rule::Four);
+    let five = else_clause(four, table, values, Rule::Five);
+    let six = else_clause(five, table, values, Rule::Six);
+    let seven = else_pair(six, table, values, PairRule::Seven);
+    else_pair(seven, table, values, PairRule::Eight)
 }
 
 // Settling from a state to its end.
@@ -128,7 +124,7 @@ pub fn propagate(table: &[i16], n: usize, state: State) -> Settled
     requires { ⌜ Within n (clauses (now table)) ⌝ }
     requires { ⌜ WellFormed n (stateOf (state .values)) ⌝ }
     requires { ⌜ n ≤ maxVariables ⌝ }
-    ensures says { λ r. ⌜ settledAs r ≡ settle n (clauses (now (table .entry))) (stateOf (state .values)) ⌝ }
+    ensures says { λ r. ⌜ settled r ≡ settle n (clauses (now (table .entry))) (stateOf (state .values)) ⌝ }
     ensures range { λ r. ⌜ InRange (r .state .values) ⌝ }
 {
     let mut s = state;

@@ -1,0 +1,70 @@
+-- `propagate` meets its contract: settling from the state of each turn ends where settling from the first does.
+use mathlib.Core.Path.{_≡_, refl, _∙_}
+use native.Mathlib.Omega.{arith}
+use borrow.Author.Needs.{needs}
+use Rattle.theory.specs.Formula.{clauses}
+use Rattle.theory.specs.State.{opens, WellFormed}
+use Rattle.theory.specs.Propagation.{settle}
+use Rattle.state.specs.State.{stateOf}
+use Rattle.clause.specs.Reading.{Ready}
+use Rattle.propagate.proofs.Settling.{Turn, settle-rest, settle-dead, settle-more}
+use Rattle.propagate.proofs.propagate.Statement.{statement}
+use Rattle.propagate.proofs.propagate.Tie as tie
+
+abbrev Inv-loop : tie.InvT-loop
+Inv-loop table n s₀ s =
+    Ready table (s .values)
+    × WellFormed n (stateOf (s .values))
+    × (settle n (clauses table) (stateOf (s .values)) ≡ settle n (clauses table) (stateOf (s₀ .values)))
+
+abbrev μ-loop : tie.MeasureT-loop
+μ-loop table n s₀ s = opens (stateOf (s .values)) n
+
+returns : tie.Need-returns Inv-loop μ-loop
+returns c =
+    let k = c .before .before in
+    let l = k .before .before .before in
+    (settle-rest _ _ _ (rw (c .enum-told .given .1) at (k .ask .ensures)) ∙ l .loop .inv .2, l .loop .inv .0 .range)
+
+returns-2 : tie.Need-returns-2 Inv-loop μ-loop
+returns-2 c =
+    let r = c .before .before .before in
+    let k = r .before .before in
+    let l = k .before .before .before in
+    (settle-dead _ _ _ (r .answer .given .0 .0) (rw (r .answer .given .1) at (k .ask .ensures)) (c .enum-told2 .given .1) ∙ l .loop .inv .2, l .loop .inv .0 .range)
+
+-- the step that is asked
+turn : (c : tie.After-known-told2 Inv-loop μ-loop) →
+    let l = c .before .before .before .before .before .before .before .before .before in
+    let a = l .before .args in
+    Turn (a .n) (clauses (a .table .now)) (stateOf (l .loop .s .values)) (c .before .asks .given .0 .0) (c .before .asks .given .0 .1 .0)
+turn c =
+    let r = c .before .before .before .before in
+    let k = r .before .before in
+    let l = k .before .before .before in
+    settle-more _ _ _ (r .answer .given .0 .0) (rw (r .answer .given .1) at (k .ask .ensures)) (c .before .asks .given .1) (l .before .pre .1 .0) (l .loop .inv .1)
+
+pub propagate-spec : {M : Type 1} → statement M
+propagate-spec =
+    tie.close
+    (tie.spec
+    Inv-loop
+    μ-loop
+    (λ c. (c .pre .0, c .pre .1 .1 .0, refl))
+    (λ c κs. c .before .before .loop .inv .0)
+    (λ c. search needs)
+    (λ c. search needs)
+    returns
+    (λ c. search needs)
+    (λ c. search needs)
+    returns-2
+    (λ c κs.
+    let l = c .before .before .before .before .before .before .before .before .before in
+    (omega (arith, turn c .x-inside, l .before .pre .1 .1 .1), (omega (arith, turn c .t-inside, l .before .pre .1 .1 .1), l .loop .inv .0 .range)))
+    (λ c. rw (c .assign .ensures .0) (turn (c .before) .fewer))
+    (λ c.
+    let l = c .before .before .before .before .before .before .before .before .before .before in (
+      record { readable = l .loop .inv .0 .readable; range = c .assign .ensures .1 },
+      rw (c .assign .ensures .0) (turn (c .before) .well),
+      rw (c .assign .ensures .0) (turn (c .before) .same-end) ∙ l .loop .inv .2,
+    )))
