@@ -88,7 +88,7 @@ pub fn tally_of(n: usize, table: &[i16]) -> Tally
 pub fn refused(fault: Fault, place: usize) -> Checked
     ensures { λ r. ⌜ r ≡ refused fault place ⌝ }
 {
-    Checked::Refused(Refusal { fault, place })
+    Checked::Refused(Refusal::new(fault, place))
 }
 
 // "Tables: 1, 2, 3, 4, 5": each refusal is over the whole table before the next.
