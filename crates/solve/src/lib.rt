@@ -1,6 +1,6 @@
 // Solving a strip: reading it, and searching what was read. The window and the layout program both do.
 ghost use mathlib.Core.Path.{_≡_};
-ghost use Rattle.search.specs.Walk.{called};
+ghost use Rattle.search.specs.Call.{called};
 ghost use Rattle.theory.specs.Calls.{solveCall, solveVariables};
 use literal::Literal;
 use receipt::Reading;
