@@ -127,10 +127,10 @@ module _ (n : ℕ) (t : List ℤ) where
 
 -- literals ---------------------------------------------------------------------------------------------------------
 
-abbrev InRange : ℕ → Formula → Type 0
+abbrev pub InRange : ℕ → Formula → Type 0
 InRange n f = (c : Clause) (l : Literal) → List·Memᴰ c f → List·Memᴰ l c → (0 < var l) × (var l ≤ n)
 
-push-range : (n : ℕ) (k : Literal) → 0 < var k → var k ≤ n → (f : Formula) → InRange n f → InRange n (push k f)
+pub push-range : (n : ℕ) (k : Literal) → 0 < var k → var k ≤ n → (f : Formula) → InRange n f → InRange n (push k f)
 push-range n k o b [] h c l mc ml = absurd (List·Memᴰ·not-nil mc)
 push-range n k o b (d ∷ f) h c l mc ml = ⊎-elim
     (λ (q : c ≡ k ∷ d). ⊎-elim (λ (e : l ≡ k). rw e (o, b)) (h d l (List·Memᴰ·head refl)) (List·Memᴰ·cases-cons (rw q at ml)))
