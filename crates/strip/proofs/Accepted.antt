@@ -14,7 +14,7 @@ use Rattle.receipt.specs.Receipt.{numberOf}
 use Rattle.theory.specs.Table.{Accepted}
 use Rattle.theory.specs.Calls.{windowRoom}
 use Rattle.theory.specs.Strip.{Turn, start, outside, inside, after, Command, command, refused, commandAt, Read, Reading, goes, stops, nothingRead, obey, finish, onward, follow, readFrom, maxStrip, readStrip}
-use Rattle.strip.proofs.Tables.{all-known, sizes-accepted}
+use Rattle.theory.proofs.Tables.{closed-ends, accepted-exactly}
 use Rattle.strip.proofs.Sound.{Sound, nothing-sound, NotShort, Keeps, obey-keeps, Says, command-says}
 
 -- what the reading from an index on ends with
@@ -65,12 +65,12 @@ module _ (s : List ℕ) (room : ℕ) where
       let h : Ends room (goes r) = rw e at strip-ends in
       let d = h .0 in
       let c = rw (h .1) at (d .clauses) in
-      sizes-accepted (r .variables) (r .table) (record {
+      accepted-exactly (r .variables) (r .table) .1 (record {
         variables = d .few-variables;
-        closed = omega (arith, c, d .few-clauses);
+        clauses = omega (arith, c, d .few-clauses);
         literals = omega (arith, d .literals, d .few-literals);
-        closes = rw (h .1) at (d .closed);
-        known = all-known 0 (r .variables) (r .table) (d .known);
+        ends = closed-ends (r .table) (rw (h .1) at (d .closed));
+        known = d .known;
       })
 
   -- "strip refusals except 23": with room for 2,560 elements

@@ -1,6 +1,5 @@
 pub mod Marks
 pub mod Commands
-pub mod Tables
 pub mod Sound
 pub mod Accepted
 pub mod Stores

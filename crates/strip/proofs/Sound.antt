@@ -1,17 +1,17 @@
 -- What holds of all that has been read, command by command: within the limits, its counts are those of the table, the table is closed outside a group,
 -- knows only variables from 1 to n and fits the room; and with room for a table at the limits no command is refused for want of room.
 use mathlib.Core.Path.{_≡_, refl, ap}
-use mathlib.Core.Bool.{Bool, true, false, not, _||_}
+use mathlib.Core.Bool.{Bool, false, not, _||_}
 use mathlib.Core.Logic.{_≢_, ⊎-elim}
 use mathlib.Core.List.{List, [], _∷_, _++_, List·Memᴰ, List·Memᴰ·append-cases, List·Memᴰ·not-nil, List·Memᴰ·eq-of-singleton}
 use mathlib.Core.Option.{Option, none, some}
 use Prim.Native.Nat.{ℕ, zero, suc, _+_, _<_, _≤_}
 use native.Mathlib.Omega.{arith}
-use borrow.Author.Tests.{ltb-true, ltb-false, eqb-true, eqb-false, ne-eqb}
+use borrow.Author.Tests.{ltb-true, ltb-false, eqb-true, ne-eqb}
 use lib.Dec.{eqb, ltb, leb}
 use lib.IntN.{ℤ, natAbs, pos as posℤ}
 use lib.ListN.{length, getD, length-append}
-use Rattle.general.specs.Booleans.{bit, true-not-false, cond-ind}
+use Rattle.general.specs.Booleans.{bit, cond-ind}
 use Rattle.literal.specs.Literal.{pos, neg, entryOf, maxVariables, maxClauses, maxLiterals}
 use Rattle.receipt.specs.declared.Refusal.{Refusal}
 use Rattle.receipt.specs.Receipt.{numberOf}
@@ -19,8 +19,8 @@ use Rattle.theory.specs.Table.{closes, zeros, nonzeros, endsOpen}
 use Rattle.theory.specs.Calls.{windowRoom}
 use Rattle.theory.specs.Strip.{Mark, placements, chapter, opens, taken, leftOut, ends, Turn, start, outside, inside, after, turnNumber, turnOf, allowed, markOf, operandBytes, Command, command, refused, commandFor, commandAt, Read, Reading, goes, stops, nothingRead, store, literal, obey}
 use Rattle.theory.specs.Strip as strip
+use Rattle.theory.proofs.Tables.{zeros-append, nonzeros-append, endsOpen-append, length-elements, known-variable}
 use Rattle.strip.proofs.Marks.{number-injective}
-use Rattle.strip.proofs.Tables.{zeros-last, nonzeros-last, endsOpen-last, length-elements}
 
 -- what is read ------------------------------------------------------------------------------------------------------
 
@@ -83,19 +83,11 @@ entry-size : (p : ℕ) → natAbs (entryOf (neg p)) ≡ p
 entry-size zero = refl
 entry-size (suc p) = refl
 
--- an operand that is a variable from 1 to n
-pub known-variable : (n p : ℕ) → (eqb p 0 || ltb n p) ≡ false → (0 < p) × (p ≤ n)
-known-variable n p = go (eqb p 0) refl (ltb n p) refl
-  where
-    go : (a : Bool) → eqb p 0 ≡ a → (b : Bool) → ltb n p ≡ b → (a || b) ≡ false → (0 < p) × (p ≤ n)
-    go true ea b eb e = absurd (true-not-false refl e)
-    go false ea true eb e = absurd (true-not-false refl e)
-    go false ea false eb e = let h : p ≢ 0 = eqb-false p 0 ea in (omega arith, ltb-false n p eb)
-
 module _ (room i : ℕ) (r : Read) (s : Sound room r) where
   module _ (t : r .turn ≡ inside) where
     -- an entry, of a variable from 1 to n
     entry-keeps : (p : ℕ) (e : ℤ) → natAbs e ≡ p → Keeps room (literal room i r p e)
+    unfolding zeros nonzeros
     entry-keeps p e a =
         let c = rw t at (s .clauses) in
         cond-ind (Keeps room) _ _ (eqb p 0 || ltb (r .variables) p)
@@ -109,8 +101,8 @@ module _ (room i : ℕ) (r : Read) (s : Sound room r) where
           few-variables = s .few-variables;
           few-clauses = s .few-clauses;
           few-literals = ltb-true (r .literals) maxLiterals l;
-          clauses = omega (arith, zeros-last e (r .table), ap bit o, c);
-          literals = omega (arith, nonzeros-last e (r .table), ap (λ (x : Bool). bit (not x)) o, s .literals);
+          clauses = omega (arith, zeros-append (r .table) (e ∷ []), ap bit o, c);
+          literals = omega (arith, nonzeros-append (r .table) (e ∷ []), ap (λ (x : Bool). bit (not x)) o, s .literals);
           closed = tt;
           known = last-known (r .variables) e (omega (arith, k .1)) (r .table) (s .known);
           fits = omega (arith, length-append (r .table) (e ∷ []), ltb-true (length (r .table)) room d);
@@ -127,6 +119,7 @@ module _ (room i : ℕ) (r : Read) (s : Sound room r) where
         (λ l w q. omega arith))
 
     closing-keeps : Keeps room (store room i outside (r .literals) r (posℤ 0))
+    unfolding zeros nonzeros endsOpen
     closing-keeps =
         let c = rw t at (s .clauses) in
         cond-ind (Keeps room) _ _ (ltb (length (r .table)) room)
@@ -134,9 +127,9 @@ module _ (room i : ℕ) (r : Read) (s : Sound room r) where
           few-variables = s .few-variables;
           few-clauses = s .few-clauses;
           few-literals = s .few-literals;
-          clauses = omega (arith, zeros-last (posℤ 0) (r .table), c);
-          literals = omega (arith, nonzeros-last (posℤ 0) (r .table), s .literals);
-          closed = endsOpen-last (posℤ 0) false (r .table);
+          clauses = omega (arith, zeros-append (r .table) (posℤ 0 ∷ []), c);
+          literals = omega (arith, nonzeros-append (r .table) (posℤ 0 ∷ []), s .literals);
+          closed = endsOpen-append false (r .table) (posℤ 0 ∷ []);
           known = last-known (r .variables) (posℤ 0) (omega arith) (r .table) (s .known);
           fits = omega (arith, length-append (r .table) (posℤ 0 ∷ []), ltb-true (length (r .table)) room b);
         })

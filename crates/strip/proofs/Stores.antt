@@ -13,7 +13,7 @@ use Rattle.general.specs.Booleans.{cond-ind}
 use Rattle.literal.specs.Literal.{pos, neg, entryOf, maxVariables, maxClauses, maxLiterals}
 use Rattle.theory.specs.Strip.{Mark, placements, chapter, opens, taken, leftOut, closes, ends, Turn, outside, inside, Read, Reading, goes, stops, store, literal, obey}
 use Rattle.strip.specs.Progress.{elementOf}
-use Rattle.strip.proofs.Sound.{known-variable}
+use Rattle.theory.proofs.Tables.{known-variable}
 
 -- the table stays, or has one element more
 abbrev pub Grows : List ℤ → ℤ → Reading → Type 0

@@ -19,3 +19,4 @@ pub mod Tables
 pub mod Demands
 pub mod Paths
 pub mod Filings
+pub mod SettledList

@@ -8,7 +8,7 @@ use lib.ListN.{length, replicate, take, drop}
 use Rattle.general.specs.Lists.{upTo}
 use Rattle.literal.specs.declared.Literal.{Literal}
 use Rattle.literal.specs.declared.Literal.the-variants.{Pos, Neg}
-use Rattle.literal.specs.Literal.{maxClauses, maxLiterals, maxTable}
+use Rattle.literal.specs.Literal.{maxVariables, maxClauses, maxLiterals, maxTable}
 use Rattle.receipt.specs.declared.Fault.the-variants.{TooManyClauses, TooManyLiterals, UnknownVariable, PlanShort, TrailShort, ReceiptShort, UsedLengthWrong, StateShort, TableShort}
 use Rattle.receipt.specs.declared.Refusal.{Refusal}
 use Rattle.receipt.specs.declared.Checked.{Checked}
@@ -25,6 +25,7 @@ use Rattle.receipt.specs.declared.Receipt.{Receipt}
 use Rattle.receipt.specs.Receipt.{refusal, refusedReceipt}
 use Rattle.receipt.specs.Answers.{searchingReceipt}
 use Rattle.theory.specs.Formula.{Choice, clauses}
+use Rattle.theory.specs.SettledList.{decided}
 use Rattle.theory.specs.State.{State, initial}
 use Rattle.theory.specs.Table.{zeros, nonzeros, refused, check}
 use Rattle.theory.specs.Propagation.{Settled, dead, rest, settle}
@@ -41,8 +42,8 @@ over n new old = new ++ drop n old
 
 -- "257 taken, -257 left out, +p open, +r or -r tied to r"
 abbrev pub stateEntry : Literal → ℤ
-stateEntry (Pos zero) = posℤ 257
-stateEntry (Neg zero) = negsuc 256
+stateEntry (Pos zero) = posℤ decided
+stateEntry (Neg zero) = negsuc maxVariables
 stateEntry (Pos (suc r)) = posℤ (suc r)
 stateEntry (Neg (suc r)) = negsuc r
 

@@ -10,3 +10,4 @@ pub mod Search
 pub mod Strip
 pub mod Calls
 pub mod Filings
+pub mod SettledList
