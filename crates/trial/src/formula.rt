@@ -16,7 +16,9 @@ use std::num::wrapping_add_usize;
 pub const ROOM: usize = 2600;
 
 // The filings at the limits are the first ones.
-pub const LIMITS: usize = 14;
+const LIMITS: usize = 14;
+
+const UNKNOWN_TOO: usize = 9;
 
 // The most variables that stand in a filing's clauses, so that every choice can be tried.
 const MOST: usize = 12;
@@ -240,7 +242,7 @@ fn limit_shape(number: usize) -> Shape {
         6 => exact(0, 6, 1, Kind::Any, MAX_LITERALS),
         7 => exact(0, 6, 1, Kind::Any, MAX_LITERALS + 1),
         8 => exact(0, 10, MAX_CLAUSES / 2, Kind::Same, 2 * one),
-        9 => exact(0, 6, 3, Kind::Taken, MAX_LITERALS / 3 + 1),
+        UNKNOWN_TOO => exact(0, 6, 3, Kind::Taken, MAX_LITERALS / 3 + 1),
         10 => exact(0, 6, MAX_CLAUSES, Kind::Empty, 0),
         11 => exact(0, 6, MAX_CLAUSES + 1, Kind::Empty, 0),
         12 => exact(MAX_VARIABLES as u16, 0, 0, Kind::Any, 0),
@@ -307,15 +309,31 @@ fn spoiled(table: &mut [i16], formula: Formula, seed: &mut u64) -> Formula {
     changed
 }
 
+// A filing at the limits. Of three clauses with an entry too many, the last entry is unknown too.
+fn limit_formula(number: usize, table: &mut [i16], seed: &mut u64) -> Formula {
+    let formula = write_formula(table, limit_shape(number), seed);
+    if number == UNKNOWN_TOO {
+        if 1 < formula.used {
+            put_entry(table, formula.used - 2, -32768);
+        }
+    }
+    formula
+}
+
 // Writes the filing of a number into a table.
 pub fn formula_of(number: usize, table: &mut [i16], seed: &mut u64) -> Formula {
     if number < LIMITS {
-        return write_formula(table, limit_shape(number), seed);
+        return limit_formula(number, table, seed);
     }
     let shape = random_shape(seed);
     let formula = write_formula(table, shape, seed);
-    if once_in(seed, 16) {
-        return spoiled(table, formula, seed);
+    let pick = below(seed, 32);
+    match pick {
+        0 => spoiled(table, formula, seed),
+        1 => {
+            let once = spoiled(table, formula, seed);
+            spoiled(table, once, seed)
+        }
+        _ => formula,
     }
-    formula
 }

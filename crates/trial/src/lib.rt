@@ -1,11 +1,15 @@
-// What the trials set beside the operations, and nothing here calls one: random filings, a solver that tries every choice, slow checks of tables, strips whole and
-// damaged, and a slow reader. Nothing is ensured; the proofs say that each function is safe and ends.
+// What the trials set beside the operations, and nothing here calls one: random filings, a solver that tries every choice, slow checks of tables, a slow reader, strips
+// whole and damaged, and what each operation must answer by these. Little is ensured; the proofs say that each function is safe and ends.
 pub mod brute;
 pub mod damage;
 pub mod formula;
+pub mod indexed;
 pub mod lists;
 pub mod random;
-pub mod reader;
+pub mod readings;
+pub mod searched;
 pub mod settled;
+pub mod slow;
+pub mod tally;
 pub mod verdict;
 pub mod writer;

@@ -1,8 +1,16 @@
-// The lists that Settle writes: 257 taken, -257 left out, +p open, +r or -r tied to r.
+// What Settle must write: 257 taken, -257 left out, +p open, +r or -r tied to r.
+use super::brute::first_solution;
+use super::brute::none_excluded;
+use super::formula::Formula;
 use super::lists::byte_at;
+use super::lists::clear_entries;
 use super::lists::entry_at;
 use super::lists::more;
+use super::lists::same_entries;
 use super::lists::size;
+
+// Lists have so many elements, all 9 before a call.
+pub const ROOM: usize = 260;
 
 const TAKEN: i16 = 257;
 
@@ -91,4 +99,37 @@ pub fn forms_of(list: &[i16], n: usize, before: Forms) -> Forms {
         forms = forms.with(list, i);
     }
     forms
+}
+
+// The list of a dead end; untouched where n is 0.
+pub fn emptied(n: usize) -> [i16; ROOM] {
+    let mut list = [9i16; ROOM];
+    clear_entries(&mut list, n);
+    list
+}
+
+// Whether the list is that of a dead end, and the filing has no layout.
+pub fn is_dead_end(table: &[i16], formula: Formula, list: [i16; ROOM]) -> bool {
+    let zeros = emptied(formula.n);
+    if !same_entries(&list, &zeros) {
+        return false;
+    }
+    let mut assignment = [0u8; ROOM];
+    !first_solution(table, &mut assignment, formula.base, formula.n)
+}
+
+// Whether the list has no wrong form, is untouched after n elements, and excludes no layout.
+pub fn is_settled(table: &[i16], formula: Formula, list: [i16; ROOM]) -> bool {
+    let mut rest = list;
+    clear_entries(&mut rest, formula.n);
+    let zeros = emptied(formula.n);
+    if !same_entries(&rest, &zeros) {
+        return false;
+    }
+    let forms = forms_of(&list, formula.n, Forms::new());
+    if 0 < forms.wrong {
+        return false;
+    }
+    let mut assignment = [0u8; ROOM];
+    none_excluded(table, &list, &mut assignment, formula.base, formula.n)
 }

@@ -3,8 +3,8 @@ use Prim.Native.Nat.{_-_}
 use mathlib.Core.Path.{_≡_}
 use borrow.Author.Needs.{needs}
 use lib.ListN.{length}
-use Rattle.trial.proofs.reader.read.Statement.{statement}
-use Rattle.trial.proofs.reader.read.Tie as tie
+use Rattle.trial.proofs.slow.read.Statement.{statement}
+use Rattle.trial.proofs.slow.read.Tie as tie
 
 abbrev Inv-loop : tie.InvT-loop
 Inv-loop strip table₀ slow₀ i₀ i-end table slow i = length table ≡ length table₀

@@ -5,7 +5,6 @@ use super::lists::signed;
 use super::verdict::MAX_CLAUSES;
 use super::verdict::MAX_LITERALS;
 use super::verdict::MAX_VARIABLES;
-use super::verdict::Verdict;
 use super::writer::MAX_STRIP;
 
 // What is known after a byte: whether the strip is refused, with number and place; the command, its place and the bytes of its operand that are still to come; and
@@ -185,16 +184,6 @@ impl Slow {
         }
         self.place = 0;
         self
-    }
-
-    pub fn verdict(self) -> Verdict {
-        if self.refused {
-            return Verdict::Refused {
-                number: self.number,
-                place: self.place,
-            };
-        }
-        Verdict::Passes
     }
 }
 

@@ -1,0 +1,120 @@
+// What came of the calls of an operation.
+use super::lists::byte_at;
+use super::lists::more;
+use super::settled::Forms;
+use super::settled::forms_of;
+use std::num::wrapping_add_usize;
+
+// The numbers on the receipt are below this one.
+const NUMBERS: usize = 25;
+
+// How many answers of each number, how many that were not as expected, what an operation measures (the splits of a search, the bytes of a strip), added up and at
+// most, and what settled lists say.
+pub struct Tally {
+    answers: [usize; NUMBERS],
+    pub disagreements: usize,
+    sum: usize,
+    most: usize,
+    forms: Forms,
+}
+
+fn line(name: &[u8], count: usize) {
+    show::text(name);
+    show::number(count as u64);
+    show::text(b"\n");
+}
+
+impl Tally {
+    pub fn new() -> Tally {
+        Tally {
+            answers: [0usize; NUMBERS],
+            disagreements: 0,
+            sum: 0,
+            most: 0,
+            forms: Forms::new(),
+        }
+    }
+
+    // One answer more.
+    pub fn judged(mut self, answer: u32, agrees: bool, table: &[i16], n: usize) -> Tally {
+        let number = answer as usize;
+        if number < NUMBERS {
+            self.answers[number] = more(self.answers[number]);
+        }
+        self.compared(agrees, table, n)
+    }
+
+    // The first disagreement has its filing printed.
+    pub fn compared(mut self, agrees: bool, table: &[i16], n: usize) -> Tally {
+        if agrees {
+            return self;
+        }
+        if self.disagreements == 0 {
+            show::text(b"disagreement at n");
+            show::number(n as u64);
+            show::text(b" table");
+            show::entries(table);
+            show::text(b"\n");
+        }
+        self.disagreements = more(self.disagreements);
+        self
+    }
+
+    pub fn measured(mut self, measure: usize) -> Tally {
+        self.sum = wrapping_add_usize(self.sum, measure);
+        if self.most < measure {
+            self.most = measure;
+        }
+        self
+    }
+
+    pub fn with_forms(mut self, list: &[i16], n: usize) -> Tally {
+        let forms = self.forms;
+        let more = forms_of(list, n, forms);
+        self.forms = more;
+        self
+    }
+
+    // The answers of a number, under a name.
+    pub fn show(self, name: &[u8], number: u8) {
+        let i = number as usize;
+        let all = self.answers;
+        if i < NUMBERS {
+            line(name, all[i]);
+        }
+    }
+
+    fn show_number(self, number: u8) {
+        show::text(b"refused");
+        show::number(number as u64);
+        self.show(b":", number);
+    }
+
+    // The answers of these numbers, which refuse.
+    pub fn show_refused(self, numbers: &[u8]) {
+        for i in 0..numbers.len() {
+            self.show_number(byte_at(numbers, i));
+        }
+    }
+
+    pub fn show_splits(self) {
+        line(b"splits", self.sum);
+        line(b"most splits", self.most);
+    }
+
+    pub fn show_strips(self) {
+        line(b"longest strip read", self.most);
+    }
+
+    pub fn show_forms(self) {
+        let forms = self.forms;
+        line(b"placements taken", forms.taken);
+        line(b"left out", forms.left_out);
+        line(b"open", forms.free);
+        line(b"tied", forms.tied);
+    }
+
+    pub fn show_disagreements(self) {
+        line(b"disagreements", self.disagreements);
+    }
+}
