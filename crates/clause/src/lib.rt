@@ -82,7 +82,11 @@ pub fn times_at(table: &[i16], values: &[u16; Literal::VARIABLES], from: usize, 
 }
 
 // How often each literal stands in a clause, by its code.
-pub fn counts_at(table: &[i16], values: &[u16; Literal::VARIABLES], from: usize) -> [u16; Literal::CODES]
+pub fn counts_at(
+    table: &[i16],
+    values: &[u16; Literal::VARIABLES],
+    from: usize,
+) -> [u16; Literal::CODES]
     requires { ⌜ Ready (now table) (now values) ⌝ }
     ensures { λ r. ⌜ CountsOf r (clauseAt (now (table .entry)) (now (values .entry)) from) ⌝ }
 {

@@ -70,7 +70,13 @@ fn first_pair(table: &[i16], values: &[u16; Literal::VARIABLES], rule: PairRule)
     while g < table.len() {
         let next = clause::next_clause(table, g);
         if clause::live(table, values, g) {
-            let found = first_clause(table, values, Rule::Pair(rule, g), next, ClauseNumber(k + 1));
+            let found = first_clause(
+                table,
+                values,
+                Rule::Pair(rule, g),
+                next,
+                ClauseNumber(k + 1),
+            );
             if let Answer::Asks(_) = found {
                 return found;
             }
@@ -82,7 +88,12 @@ fn first_pair(table: &[i16], values: &[u16; Literal::VARIABLES], rule: PairRule)
 }
 
 // What a lower rule asks, or else one of rules 1 to 6 of the first clause that it fits.
-fn else_clause(lower: Answer, table: &[i16], values: &[u16; Literal::VARIABLES], rule: Rule) -> Answer
+fn else_clause(
+    lower: Answer,
+    table: &[i16],
+    values: &[u16; Literal::VARIABLES],
+    rule: Rule,
+) -> Answer
     requires { ⌜ Ready (now table) (now values) ⌝ }
     ensures { λ r. ⌜ answer r ≡ orElse (answer lower) (firstClause (ruleAt (now (table .entry)) (now (values .entry)) rule) 1 (clausesFrom (now (table .entry)) (now (values .entry)) 0)) ⌝ }
 {
@@ -93,7 +104,12 @@ fn else_clause(lower: Answer, table: &[i16], values: &[u16; Literal::VARIABLES],
 }
 
 // What a lower rule asks, or else rule 7 or 8 of the first pair that it fits.
-fn else_pair(lower: Answer, table: &[i16], values: &[u16; Literal::VARIABLES], rule: PairRule) -> Answer
+fn else_pair(
+    lower: Answer,
+    table: &[i16],
+    values: &[u16; Literal::VARIABLES],
+    rule: PairRule,
+) -> Answer
     requires { ⌜ Ready (now table) (now values) ⌝ }
     ensures { λ r. ⌜ answer r ≡ orElse (answer lower) (firstPair (pairRule rule) 1 (clausesFrom (now (table .entry)) (now (values .entry)) 0)) ⌝ }
 {

@@ -229,12 +229,7 @@ fn pair_rule(
 }
 
 // What a rule asks of the clause at `from`.
-pub fn asks(
-    table: &[i16],
-    values: &[u16; Literal::VARIABLES],
-    rule: Rule,
-    from: usize,
-) -> Fit
+pub fn asks(table: &[i16], values: &[u16; Literal::VARIABLES], rule: Rule, from: usize) -> Fit
     requires { ⌜ Ready (now table) (now values) ⌝ }
     ensures { λ r. ⌜ fit r ≡ ruleAt (now (table .entry)) (now (values .entry)) rule (clauseAt (now (table .entry)) (now (values .entry)) from) ⌝ }
 {

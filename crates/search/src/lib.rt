@@ -54,7 +54,12 @@ fn lower(found: Branch, p: Variable) -> Branch
 }
 
 // The lowest of what was found and the variables that stand in the clause at `from`.
-fn lowest_at(table: &[i16], values: &[u16; Literal::VARIABLES], from: usize, found: Branch) -> Branch
+fn lowest_at(
+    table: &[i16],
+    values: &[u16; Literal::VARIABLES],
+    from: usize,
+    found: Branch,
+) -> Branch
     requires { ⌜ Ready (now table) (now values) ⌝ }
     ensures { λ r. ⌜ branchOf r ≡ lowerOf (branchOf found) (lowest (map var (clauseAt (now (table .entry)) (now (values .entry)) from))) ⌝ }
 {
@@ -93,20 +98,8 @@ fn chosen(x: Literal) -> u8
     ensures { λ r. ⌜ r ≡ bit (holds onlyConstant x) ⌝ }
 {
     match x {
-        Literal::Pos(p) => {
-            if p == 0 {
-                1
-            } else {
-                0
-            }
-        }
-        Literal::Neg(p) => {
-            if p == 0 {
-                0
-            } else {
-                1
-            }
-        }
+        Literal::Pos(p) => { if p == 0 { 1 } else { 0 } }
+        Literal::Neg(p) => { if p == 0 { 0 } else { 1 } }
     }
 }
 
@@ -229,8 +222,5 @@ pub fn search(
     let walk = settle_and_decide(table, n, state::initial(), allowance, 0, plan, trail);
     let outcome = walk.outcome;
     let count = walk.count;
-    Searching::Ended {
-        outcome,
-        count,
-    }
+    Searching::Ended { outcome, count }
 }

@@ -1,0 +1,110 @@
+// Every operation beside something that shares no definition with it: a solver that tries all choices, slow checks of tables, a slow reader. For each operation the
+// program prints how many answers of each number there were, and how many were not as expected.
+mod add_trial;
+mod index_trial;
+mod read_trial;
+mod search_trial;
+mod settle_trial;
+
+use std::num::wrapping_add_usize;
+use trial::formula::ROOM;
+use trial::tally::Tally;
+
+const FILINGS: usize = 5000;
+
+enum Operation {
+    Search,
+    Settle,
+    Add,
+    Index,
+    Read,
+}
+
+fn tried(operation: Operation, number: usize, tally: Tally) -> Tally {
+    let mut table = [0i16; ROOM];
+    let mut seed = trial::random::seed_of(number);
+    let formula = trial::formula::formula_of(number, &mut table, &mut seed);
+    let filing = trial::lists::part(&table, 0, formula.used);
+    match operation {
+        Operation::Search => search_trial::tried(filing, formula, &mut seed, tally),
+        Operation::Settle => settle_trial::tried(filing, formula, &mut seed, tally),
+        Operation::Add => add_trial::tried(filing, formula, &mut seed, tally),
+        Operation::Index => index_trial::tried(filing, formula, &mut seed, tally),
+        Operation::Read => read_trial::tried(filing, formula, &mut seed, tally),
+    }
+}
+
+fn tally_of(operation: Operation) -> Tally {
+    let mut tally = Tally::new();
+    for number in 0..FILINGS {
+        tally = tried(operation, number, tally);
+    }
+    tally
+}
+
+fn search_all() -> usize {
+    show::text(b"search\n");
+    let tally = tally_of(Operation::Search);
+    tally.show(b"laid out", 0);
+    tally.show(b"no layout", 10);
+    tally.show(b"stopped", 11);
+    tally.show_refused(&[1u8, 2, 3, 4, 5, 6, 7]);
+    tally.show_splits();
+    tally.show_disagreements();
+    tally.disagreements
+}
+
+fn settle_all() -> usize {
+    show::text(b"settle\n");
+    let tally = tally_of(Operation::Settle);
+    tally.show(b"settled", 13);
+    tally.show(b"dead ends", 10);
+    tally.show_refused(&[1u8, 2, 3, 4, 5, 14]);
+    tally.show_forms();
+    tally.show_disagreements();
+    tally.disagreements
+}
+
+// Every table that Add makes is indexed too.
+fn add_all() -> usize {
+    show::text(b"add\n");
+    let tally = tally_of(Operation::Add);
+    tally.show(b"groups added", 15);
+    tally.show(b"tables indexed", 17);
+    tally.show_refused(&[12u8, 1, 2, 3, 4, 5, 23, 8]);
+    tally.show_disagreements();
+    tally.disagreements
+}
+
+fn index_all() -> usize {
+    show::text(b"index\n");
+    let tally = tally_of(Operation::Index);
+    tally.show(b"tables indexed", 17);
+    tally.show_refused(&[1u8, 2, 3, 4, 5, 8]);
+    tally.show_disagreements();
+    tally.disagreements
+}
+
+fn read_all() -> usize {
+    show::text(b"read\n");
+    let tally = tally_of(Operation::Read);
+    tally.show(b"strips read", 16);
+    tally.show_refused(&[24u8, 20, 22, 21, 1, 5, 2, 3, 23]);
+    tally.show_strips();
+    tally.show_disagreements();
+    tally.disagreements
+}
+
+fn main() {
+    show::text(b"filings");
+    show::number(FILINGS as u64);
+    show::text(b"\n");
+    let search = search_all();
+    let settle = wrapping_add_usize(search, settle_all());
+    let add = wrapping_add_usize(settle, add_all());
+    let index = wrapping_add_usize(add, index_all());
+    let read = wrapping_add_usize(index, read_all());
+    show::text(b"all disagreements");
+    show::number(read as u64);
+    show::text(b"\n");
+}
