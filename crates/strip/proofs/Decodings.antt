@@ -1,12 +1,12 @@
 -- What decoding a strip answers: the elements in use fit the cells and the room, and copied to the table they are the call of Read.
-use mathlib.Core.Path.{_≡_, sym, ap, _∙_}
+use mathlib.Core.Path.{_≡_, sym}
 use mathlib.Core.List.{List}
 use Prim.Native.Nat.{ℕ, _≤_}
 use native.Mathlib.Omega.{arith}
 use lib.IntN.{ℤ}
-use lib.ListN.{length, take, length-take}
+use lib.ListN.{length, length-take}
 use Rattle.receipt.specs.Answers.{readLength}
-use Rattle.theory.specs.Strip.{Decoding, readStrip}
+use Rattle.theory.specs.Strip.{readStrip}
 use Rattle.theory.specs.Calls.{over, readCall}
 use Rattle.strip.specs.declared.Decoded.{Decoded}
 use Rattle.strip.specs.Decoding.{decodingOf, called}
