@@ -40,10 +40,17 @@ over n new old = new ++ drop n old
 
 -- Settle ----------------------------------------------------------------------------------------------------------
 
--- "257 taken, -257 left out, +p open, +r or -r tied to r"
+-- "257 taken, -257 left out": the number after the last placement's
+abbrev pub takenEntry : ℤ
+takenEntry = posℤ 257
+
+abbrev pub leftOutEntry : ℤ
+leftOutEntry = negsuc 256
+
+-- "+p open, +r or -r tied to r"
 abbrev pub stateEntry : Literal → ℤ
-stateEntry (Pos zero) = posℤ 257
-stateEntry (Neg zero) = negsuc 256
+stateEntry (Pos zero) = takenEntry
+stateEntry (Neg zero) = leftOutEntry
 stateEntry (Pos (suc r)) = posℤ (suc r)
 stateEntry (Neg (suc r)) = negsuc r
 
