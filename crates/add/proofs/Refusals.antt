@@ -2,24 +2,28 @@
 use Prim.Native.Nat.{ℕ, zero, suc, _+_, _≤_, _<_}
 use mathlib.Core.Path.{_≡_, refl}
 use mathlib.Core.Bool.{Bool, true, false, not, _||_, cond}
-use mathlib.Core.List.{List}
+use mathlib.Core.Logic.{⊎-elim, _↔_}
+use mathlib.Core.List.{List, [], _∷_, List·Memᴰ, List·Memᴰ·head, List·Memᴰ·tail, List·Memᴰ·not-nil, List·Memᴰ·cases-cons}
 use native.Mathlib.Decide.{decLt}
 use native.Mathlib.Nat.{add-suc}
 use native.Mathlib.Numerals.{add-one}
 use native.Mathlib.Omega.{arith}
-use borrow.Author.Tests.{lt-ltb, le-ltb, le-leb, lt-leb, ltb-false}
+use borrow.Author.Tests.{lt-ltb, le-ltb, le-leb, lt-leb, ltb-false, ne-eqb}
 use lib.Dec.{ltb, eqb, eqb·suc-zero}
 use lib.IntN.{ℤ, pos, natAbs}
 use lib.ListN.{length, getD, take, drop, drop-of-length-le}
 use lib.Seq.{drop-cons}
 use Rattle.literal.specs.Literal.{maxClauses, maxLiterals}
+use Rattle.receipt.specs.Receipt.{refusal}
 use Rattle.receipt.specs.declared.Adding.the-variants.{Added}
 use Rattle.receipt.specs.declared.Fault.{Fault}
 use Rattle.receipt.specs.declared.Fault.the-variants.{TooManyClauses, TooManyLiterals, UnknownVariable, UsedLengthWrong, TableShort}
 use Rattle.receipt.specs.declared.Checked.{Checked}
 use Rattle.receipt.specs.declared.Checked.the-variants.{Passed, Refused}
 use Rattle.theory.specs.Table.{zeros, nonzeros, refused, check}
-use Rattle.theory.specs.Calls.{AddCall, short, addRefused, unknownIn, added, addKnown, addChecked, addCall}
+use Rattle.theory.specs.Calls.{AddCall, addRefused, unknownIn, added, addKnown, addChecked, addCall}
+use Rattle.theory.proofs.Tables.{past, known-variable, accepted-exactly}
+use Rattle.add.specs.Addable.{Addable}
 use Rattle.add.specs.Add.{known, firstRefusal, atMost, checkAdded, called}
 
 -- the test of the definition is the opposite of the code's
@@ -55,10 +59,10 @@ module _ (b : List ℤ) where
   first-then (Refused r) d a = refl
   first-then Passed d a = refl
 
-  limit-then : (k m : ℕ) (why : Fault) (a : AddCall) → unlessRefused b (atMost k m why) a ≡ cond (ltb m k) (addRefused (short why) b) a
+  limit-then : (k m : ℕ) (why : Fault) (a : AddCall) → unlessRefused b (atMost k m why) a ≡ cond (ltb m k) (addRefused (refusal why 0) b) a
   limit-then k m why a = go (ltb m k)
     where
-      go : (t : Bool) → unlessRefused b (cond t (refused why 0) Passed) a ≡ cond t (addRefused (short why) b) a
+      go : (t : Bool) → unlessRefused b (cond t (refused why 0) Passed) a ≡ cond t (addRefused (refusal why 0) b) a
       go true = refl
       go false = refl
 
@@ -75,22 +79,62 @@ module _ (b : List ℤ) where
   unfolding addCall checkAdded
   call-checked u n g = simp (first-then, limit-then) (rw (checked-then (check n (take u b)) u n g, known-then (unknownIn u n g) u g))
 
--- what passes has room
-past : (c d : Checked) → firstRefusal c d ≡ Passed → d ≡ Passed
-past (Refused r) d e = absurd (let z : _≡_ {A = ℕ} 0 1 = cc in omega arith)
-past Passed d e = e
+-- all checks pass exactly when the list may be added ----------------------------------------------------------------
 
-within : (k m : ℕ) (why : Fault) → atMost k m why ≡ Passed → k ≤ m
-within k m why e = ltb-false m k (go (ltb m k) e)
-  where
-    go : (t : Bool) → cond t (refused why 0) Passed ≡ Passed → t ≡ false
-    go true e = absurd (let z : _≡_ {A = ℕ} 0 1 = cc in omega arith)
-    go false e = refl
+first-passed : (c d : Checked) → (firstRefusal c d ≡ Passed) ↔ ((c ≡ Passed) × (d ≡ Passed))
+first-passed (Refused r) d = (λ e. absurd (let z : _≡_ {A = ℕ} 0 1 = cc in omega arith), λ e. absurd (let z : _≡_ {A = ℕ} 0 1 = cc (e .0) in omega arith))
+first-passed Passed d = (λ e. (refl, e), λ e. e .1)
 
-pub passed-room : (u n : ℕ) (g b : List ℤ) → checkAdded u n g b ≡ Passed → u + length g < length b
-unfolding checkAdded
-passed-room u n g b e =
-    let t = take u b in
-    let limits = firstRefusal (atMost (zeros t + 1) maxClauses TooManyClauses) (atMost (nonzeros t + length g) maxLiterals TooManyLiterals) in
-    let h = past limits _ (past (check n t) _ (past (atMost u (length b) UsedLengthWrong) _ e)) in
-    omega (arith, within (u + length g + 1) (length b) TableShort (past (unknownIn u n g) _ h))
+most-passed : (k m : ℕ) (why : Fault) → (atMost k m why ≡ Passed) ↔ (k ≤ m)
+most-passed k m why = (λ e. ltb-false m k (past (ltb m k) _ _ e .0), λ h. rw (le-ltb m k h))
+
+list-passed : (i n : ℕ) (g : List ℤ) → unknownIn i n g ≡ Passed → (e : ℤ) → List·Memᴰ e g → (0 < natAbs e) × (natAbs e ≤ n)
+unfolding unknownIn
+list-passed i n [] h e m = absurd (List·Memᴰ·not-nil m)
+list-passed i n (x ∷ g) h e m =
+    let a = past (eqb (natAbs x) 0 || ltb n (natAbs x)) _ _ h in
+    ⊎-elim (λ (q : e ≡ x). rw q (known-variable n (natAbs x) (a .0))) (list-passed (suc i) n g (a .1) e) (List·Memᴰ·cases-cons m)
+
+passed-list : (i n : ℕ) (g : List ℤ) → ((e : ℤ) → List·Memᴰ e g → (0 < natAbs e) × (natAbs e ≤ n)) → unknownIn i n g ≡ Passed
+unfolding unknownIn
+passed-list i n [] h = refl
+passed-list i n (x ∷ g) h =
+    let k = h x (List·Memᴰ·head refl) in
+    rw (ne-eqb (natAbs x) 0 (λ q. omega (arith, k .0)), le-ltb n (natAbs x) (k .1)) (passed-list (suc i) n g (λ e m. h e (List·Memᴰ·tail m)))
+
+module _ (u n : ℕ) (g b : List ℤ) where
+  abbrev t : List ℤ
+  t = take u b
+
+  abbrev clauses-check : Checked
+  clauses-check = atMost (zeros t + 1) maxClauses TooManyClauses
+
+  abbrev literals-check : Checked
+  literals-check = atMost (nonzeros t + length g) maxLiterals TooManyLiterals
+
+  pub checked-exactly : (checkAdded u n g b ≡ Passed) ↔ Addable u n g b
+  unfolding checkAdded
+  checked-exactly = (
+    λ e.
+        let x = first-passed (atMost u (length b) UsedLengthWrong) _ .0 e in
+        let y = first-passed (check n t) _ .0 (x .1) in
+        let z = first-passed (firstRefusal clauses-check literals-check) _ .0 (y .1) in
+        let l = first-passed clauses-check literals-check .0 (z .0) in
+        let w = first-passed (unknownIn u n g) _ .0 (z .1) in
+        record {
+          used = most-passed u (length b) UsedLengthWrong .0 (x .0);
+          within = accepted-exactly n t .0 (y .0);
+          clauses = most-passed _ _ TooManyClauses .0 (l .0);
+          literals = most-passed _ _ TooManyLiterals .0 (l .1);
+          known = list-passed u n g (w .0);
+          room = most-passed _ _ TableShort .0 (w .1);
+        },
+    λ a. rw (
+      most-passed u (length b) UsedLengthWrong .1 (a .used),
+      accepted-exactly n t .1 (a .within),
+      most-passed (zeros t + 1) maxClauses TooManyClauses .1 (a .clauses),
+      most-passed (nonzeros t + length g) maxLiterals TooManyLiterals .1 (a .literals),
+      passed-list u n g (a .known),
+      most-passed (u + length g + 1) (length b) TableShort .1 (a .room),
+    ),
+  )

@@ -5,22 +5,20 @@ ghost use lib.IntN.{pos};
 ghost use lib.ListN.{length, replicate};
 ghost use Rattle.theory.specs.Calls.{over};
 
-pub fn clear_bytes(list: &mut [u8], n: usize)
-    requires { ⌜ n ≤ length (now list) ⌝ }
-    ensures { λ _. ⌜ now (list .exit) ≡ over n (replicate n 0) (now (list .entry)) ⌝ }
+pub fn clear_bytes(bytes: &mut [u8], n: usize)
+    requires { ⌜ n ≤ length (now bytes) ⌝ }
+    ensures { λ _. ⌜ now (bytes .exit) ≡ over n (replicate n 0) (now (bytes .entry)) ⌝ }
 {
-    let mut i = 0;
-    while i < n {
-        list[i] = 0u8;
-        i += 1;
+    for i in 0..n {
+        bytes[i] = 0;
     }
 }
 
-pub fn clear_numbers(list: &mut [i16], n: usize)
-    requires { ⌜ n ≤ length (now list) ⌝ }
-    ensures { λ _. ⌜ now (list .exit) ≡ over n (replicate n (pos 0)) (now (list .entry)) ⌝ }
+pub fn clear_numbers(numbers: &mut [i16], n: usize)
+    requires { ⌜ n ≤ length (now numbers) ⌝ }
+    ensures { λ _. ⌜ now (numbers .exit) ≡ over n (replicate n (pos 0)) (now (numbers .entry)) ⌝ }
 {
     for i in 0..n {
-        list[i] = 0;
+        numbers[i] = 0;
     }
 }

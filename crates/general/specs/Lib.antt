@@ -3,3 +3,5 @@ pub mod Lists
 pub mod Search
 pub mod Options
 pub mod Counting
+pub mod Runs
+pub mod Appending

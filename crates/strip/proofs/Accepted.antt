@@ -1,78 +1,82 @@
--- The table of a strip that passes is accepted by the check of tables and fits the room, and with room for a table at the limits no strip is refused
--- for want of room.
+-- The table of a formula within the limits is accepted by the check of tables; so is the table of every strip that is read.
 use mathlib.Core.Path.{_≡_, refl, ap}
-use mathlib.Core.Logic.{_≢_}
-use mathlib.Core.List.{List}
-use Prim.Native.Nat.{ℕ, zero, suc, _≤_}
+use mathlib.Core.Bool.{Bool, false, not}
+use mathlib.Core.List.{List, [], _∷_, _++_, map, List·Memᴰ, List·Memᴰ·head, List·Memᴰ·tail}
+use Prim.Native.Nat.{ℕ, zero, suc, _+_, _<_, _≤_}
 use native.Mathlib.Omega.{arith}
-use lib.Dec.{ltb}
+use borrow.Author.Tests.{ne-eqb, le-ltb}
+use lib.IntN.{ℤ, natAbs, pos}
 use lib.ListN.{length}
-use Rattle.general.specs.Booleans.{cond-ind}
-use Rattle.receipt.specs.declared.Fault.the-variants.{TableShort}
-use Rattle.receipt.specs.declared.Refusal.{Refusal}
-use Rattle.receipt.specs.Receipt.{numberOf}
-use Rattle.theory.specs.Table.{Accepted}
-use Rattle.theory.specs.Calls.{windowRoom}
-use Rattle.theory.specs.Strip.{Turn, start, outside, inside, after, Command, command, refused, commandAt, Read, Reading, goes, stops, nothingRead, obey, finish, onward, follow, readFrom, maxStrip, readStrip}
-use Rattle.strip.proofs.Tables.{all-known, sizes-accepted}
-use Rattle.strip.proofs.Sound.{Sound, nothing-sound, NotShort, Keeps, obey-keeps, Says, command-says}
+use Rattle.general.specs.Booleans.{bit}
+use Rattle.literal.specs.declared.Literal.{Literal}
+use Rattle.literal.specs.declared.Literal.the-variants.{Pos, Neg}
+use Rattle.literal.specs.Literal.{var, entryOf, maxVariables, maxClauses, maxLiterals}
+use Rattle.receipt.specs.declared.Checked.the-variants.{Passed}
+use Rattle.receipt.specs.declared.Reading.the-variants.{Read}
+use Rattle.theory.specs.Formula.{Clause, Formula}
+use Rattle.theory.specs.Table.{closes, zeros, nonzeros, endsOpen, unknownFrom, check, Accepted}
+use Rattle.theory.specs.Strip.{readStrip}
+use Rattle.theory.specs.Encoding.{groups, tableOf, entries}
+use Rattle.theory.proofs.Tables.{InRange}
+use Rattle.strip.proofs.Sound.{Allows}
+use Rattle.strip.proofs.Ends.{Answered, answered}
 
--- what the reading from an index on ends with
-abbrev Ends : ℕ → Reading → Type 0
-Ends room (goes q) = Sound room q × (q .turn ≡ after)
-Ends room (stops f) = windowRoom ≤ room → NotShort f
+entry-size : (l : Literal) → natAbs (entryOf l) ≡ var l
+entry-size (Pos p) = refl
+entry-size (Neg zero) = refl
+entry-size (Neg (suc p)) = refl
 
-module _ (s : List ℕ) (room : ℕ) where
-  finish-ends : (i : ℕ) (r : Read) → Sound room r → Ends room (finish i r (r .turn))
-  finish-ends i r d = go (r .turn) refl
-    where
-      go : (t : Turn) → r .turn ≡ t → Ends room (finish i r t)
-      go start e = λ w q. omega arith
-      go outside e = λ w q. omega arith
-      go inside e = λ w q. omega arith
-      go after e = (d, e)
+entry-open : (l : Literal) → 0 < var l → closes (entryOf l) ≡ false
+entry-open l h = ne-eqb (natAbs (entryOf l)) 0 (λ e. omega (arith, entry-size l))
 
-  read-ends : (k i : ℕ) (r : Read) → Sound room r → Ends room (readFrom s room k i r)
-  unfolding readFrom
-  read-ends zero i r d = λ w q. omega arith
-  read-ends (suc k) i r d =
-      cond-ind (Ends room) _ _ (ltb i (length s))
-      (λ l. followed (read-ends k) (commandAt s i (r .turn)) (command-says s i (r .turn)))
-      (λ l. finish-ends (length s) r d)
-    where
-      went : ((j : ℕ) (q : Read) → Sound room q → Ends room (readFrom s room k j q)) → (next : ℕ) (x : Reading) → Keeps room x →
-          Ends room (onward s room (readFrom s room k) next x)
-      went ih next (goes q) h = ih next q h
-      went ih next (stops f) h = h
+-- a table by its counts of groups and entries, read after an entry (b is true) or not
+record Counted (n : ℕ) (b : Bool) (t : List ℤ) (c l : ℕ) : Type 0 where
+  pub clauses : zeros t ≡ c
+  pub literals : nonzeros t ≡ l
+  pub closed : endsOpen b t ≡ false
+  pub known : (i : ℕ) → unknownFrom i n t ≡ Passed
 
-      followed : ((j : ℕ) (q : Read) → Sound room q → Ends room (readFrom s room k j q)) → (c : Command) → Says s i (r .turn) c →
-          Ends room (follow s room (readFrom s room k) i r c)
-      followed ih (command m v next) h = went ih next (obey room i r v m) (obey-keeps room i r d v m (h .0))
-      followed ih (refused f) h = λ w. h
+module _ (n : ℕ) where
+  row : (t : List ℤ) (k j : ℕ) → Counted n false t k j → (b : Bool) (c : Clause) → ((l : Literal) → List·Memᴰ l c → (0 < var l) × (var l ≤ n)) →
+      Counted n b (map entryOf c ++ (pos 0 ∷ t)) (suc k) (length c + j)
+  unfolding zeros nonzeros endsOpen unknownFrom
+  row t k j a b [] h = record {
+    clauses = omega (arith, a .clauses);
+    literals = omega (arith, a .literals);
+    closed = a .closed;
+    known = λ i. rw (le-ltb n 0 (omega arith)) (a .known (suc i));
+  }
+  row t k j a b (l ∷ c) h =
+      let o = h l (List·Memᴰ·head refl) in
+      let e = entry-open l (o .0) in
+      let r = row t k j a (not (closes (entryOf l))) c (λ x m. h x (List·Memᴰ·tail m)) in
+      record {
+        clauses = omega (arith, ap bit e, r .clauses);
+        literals = omega (arith, ap (λ (x : Bool). bit (not x)) e, r .literals);
+        closed = r .closed;
+        known = λ i. rw (le-ltb n (natAbs (entryOf l)) (omega (arith, entry-size l, o .1))) (r .known (suc i));
+      }
 
-  strip-ends : Ends room (readStrip s room)
-  unfolding readStrip
-  strip-ends = cond-ind (Ends room) _ _ (ltb maxStrip (length s))
-      (λ b w q. omega arith)
-      (λ b. read-ends (suc (length s)) 0 nothingRead (nothing-sound room))
+  table : (f : Formula) → InRange n f → Counted n false (tableOf f) (length f) (entries f)
+  unfolding tableOf entries zeros nonzeros endsOpen unknownFrom
+  table [] h = record { clauses = refl; literals = refl; closed = refl; known = λ i. refl }
+  table (c ∷ f) h = row (tableOf f) (length f) (entries f) (table f (λ d l m. h d l (List·Memᴰ·tail m))) false c (λ l. h c l (List·Memᴰ·head refl))
 
-  -- the table that is read fits the room, and every operation accepts it
-  pub read-fits : (r : Read) → readStrip s room ≡ goes r → length (r .table) ≤ room
-  read-fits r e = let h : Ends room (goes r) = rw e at strip-ends in h .0 .fits
+  formula-accepted : (f : Formula) → n ≤ maxVariables → length f ≤ maxClauses → entries f ≤ maxLiterals → InRange n f → Accepted n (tableOf f)
+  unfolding check
+  formula-accepted f v c l h =
+      let a = table f h in
+      rw (
+        le-ltb maxVariables n v,
+        le-ltb maxClauses (zeros (tableOf f)) (omega (arith, a .clauses)),
+        le-ltb maxLiterals (nonzeros (tableOf f)) (omega (arith, a .literals)),
+        a .closed,
+      ) (a .known 0)
 
-  pub read-accepted : (r : Read) → readStrip s room ≡ goes r → Accepted (r .variables) (r .table)
-  read-accepted r e =
-      let h : Ends room (goes r) = rw e at strip-ends in
-      let d = h .0 in
-      let c = rw (h .1) at (d .clauses) in
-      sizes-accepted (r .variables) (r .table) (record {
-        variables = d .few-variables;
-        closed = omega (arith, c, d .few-clauses);
-        literals = omega (arith, d .literals, d .few-literals);
-        closes = rw (h .1) at (d .closed);
-        known = all-known 0 (r .variables) (r .table) (d .known);
-      })
-
-  -- "strip refusals except 23": with room for 2,560 elements
-  pub never-short : (f : Refusal) → windowRoom ≤ room → readStrip s room ≡ stops f → f .fault ≢ TableShort
-  never-short f w e q = let h : Ends room (stops f) = rw e at strip-ends in h w (ap numberOf q)
+-- every operation accepts the table that was read
+pub read-accepted : (s : List ℕ) (room n u : ℕ) → readStrip s room .reading ≡ Read n u → Accepted n (readStrip s room .table)
+read-accepted s room n u e =
+    let a : Answered s room (Read n u) (readStrip s room .table) = rw e at (answered s room) in
+    let l = a .3 in
+    let b = l .allows in
+    rw (l .table) (formula-accepted n (groups (l .items)) (b .variables) (omega (arith, b .clauses)) (omega (arith, b .literals)) (b .known))

@@ -1,10 +1,7 @@
-pub mod Marks
-pub mod Commands
-pub mod Tables
 pub mod Sound
-pub mod Accepted
-pub mod Stores
+pub mod Ends
+pub mod Encoded
 pub mod Reached
-pub mod Prefix
 pub mod Decodings
-pub mod Places
+pub mod Accepted
+pub mod Promises

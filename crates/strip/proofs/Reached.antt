@@ -1,211 +1,124 @@
--- The reading loop: what has been read up to an index, as the numbers and the cells that code keeps of it, and that reading on from there
--- reads the whole strip.
+-- The reading loop: reading on from where it stands, with the numbers that it keeps and the table in the first cells, reads the whole strip.
 use mathlib.Core.Path.{_≡_, refl, ap, sym, _∙_}
-use mathlib.Core.Logic.{⊎-elim}
-use mathlib.Core.List.{List, [], _∷_, _++_}
-use mathlib.Core.Option.{some}
+use mathlib.Core.Logic.{_≢_}
+use mathlib.Core.Bool.{true, false}
+use mathlib.Core.List.{List, [], _∷_}
 use Prim.Native.Nat.{ℕ, zero, suc, _+_, _<_, _≤_}
+use native.Mathlib.Nat.{add-zero}
+use native.Mathlib.Numerals.{add-one}
 use native.Mathlib.Omega.{arith}
 use borrow.Author.Tests.{lt-ltb, le-ltb}
 use lib.IntN.{ℤ}
-use lib.ListN.{length, take, set, length-append, length-set}
-use lib.Seq.{take-suc-set}
-use Rattle.receipt.specs.declared.Fault.the-variants.{CutStrip}
+use lib.ListN.{length, take, set, length-set}
+use lib.Seq.{length-take-le, take-suc-set}
+use Rattle.literal.specs.Literal.{maxTable}
+use Rattle.receipt.specs.declared.Fault.{Fault}
+use Rattle.receipt.specs.declared.Fault.the-variants.{CutStrip, TableShort}
 use Rattle.receipt.specs.declared.Refusal.{Refusal}
-use Rattle.receipt.specs.declared.Checked.the-variants.{Passed}
-use Rattle.theory.specs.Strip.{Mark, Turn, start, outside, inside, after, turnNumber, turnOf, markOf, Command, command, refused, commandAt, Read, Reading, goes, stops, refuse, nothingRead, obey, finish, onward, follow, readFrom, maxStrip, readStrip}
-use Rattle.theory.specs.Calls.{windowRoom}
-use Rattle.strip.specs.declared.Progress.{Progress}
-use Rattle.strip.specs.declared.Step.the-variants as step
-use Rattle.strip.specs.declared.Obeyed.{Obeyed}
-use Rattle.strip.specs.declared.Obeyed.the-variants as obeyed
-use Rattle.strip.specs.Commands.{byteOf, turnAt, stepAs}
-use Rattle.strip.specs.Progress.{numbersOf, obeyedAs, elementOf}
-use Rattle.strip.specs.Decoding.{Decoding, decodingOf}
-use Rattle.strip.proofs.Marks.{mark-of-byte, turn-at-number}
-use Rattle.strip.proofs.Sound.{Sound, Keeps, nothing-sound, sound-length, obey-keeps, Says, command-says}
-use Rattle.strip.proofs.Stores.{Grows, obey-grows}
+use Rattle.receipt.specs.declared.Reading.the-variants.{Read}
+use Rattle.receipt.specs.Receipt.{refusal}
+use Rattle.theory.specs.declared.Mark.{Mark}
+use Rattle.theory.specs.declared.Turn.the-variants.{Start, After}
+use Rattle.theory.specs.declared.Command.the-variants as command
+use Rattle.theory.specs.declared.Progress.{Progress}
+use Rattle.theory.specs.declared.Stored.{Stored}
+use Rattle.theory.specs.declared.Stored.the-variants.{Nothing, Element}
+use Rattle.theory.specs.declared.Obeyed.the-variants as obeyed
+use Rattle.theory.specs.Strip.{same, progress, commandAt, obey, Decoding, notRead, storing, onward, follow, readFrom, maxStrip, readStrip}
+use Rattle.reader.proofs.Commands.{Stands, Says, command-says, command-bytes}
+use Rattle.strip.proofs.Sound.{pending, Sound, begun-sound, elements, obey-keeps}
 
 module _ (s : List ℕ) (room : ℕ) where
-  -- the reading of a strip that is not too long
-  abbrev pub whole : Reading
-  whole = readFrom s room (suc (length s)) 0 nothingRead
-
-  -- the loop's invariant: what was read, whose numbers code keeps, and whose table stands in the first cells
-  pub record Reached (at : ℕ) (p : Progress) (cells : List ℤ) : Type 0 where
-    pub read : Read
-    pub numbers : numbersOf read ≡ p
-    pub table : take (p .used) cells ≡ read .table
-    pub long : length cells ≡ windowRoom
-    pub sound : Sound room read
+  -- the loop's invariant
+  pub record Reached (at used : ℕ) (p : Progress) (cells : List ℤ) : Type 0 where
+    pub short : length s ≤ maxStrip
+    pub sound : Sound p used
+    pub long : length cells ≡ maxTable
     pub fuel : ℕ
     pub enough : length s ≤ at + fuel
-    pub ahead : readFrom s room (suc fuel) at read ≡ whole
+    pub rest : readFrom s room (suc fuel) at p (take used cells) ≡ readStrip s room
 
-  pub read-whole : length s ≤ maxStrip → readStrip s room ≡ whole
+  pub begun : length s ≤ maxStrip → (cells : List ℤ) → length cells ≡ maxTable → Reached 0 0 (progress Start 0 0 0) cells
   unfolding readStrip
-  read-whole h = rw (le-ltb maxStrip (length s) h)
+  begun h cells l = record { short = h; sound = begun-sound; long = l; fuel = length s; enough = omega arith; rest = rw (le-ltb maxStrip (length s) h) }
 
-  pub begun : (cells : List ℤ) → length cells ≡ windowRoom → Reached 0 (numbersOf nothingRead) cells
-  begun cells l = record {
-    read = nothingRead;
-    numbers = refl;
-    table = refl;
-    long = l;
-    sound = nothing-sound room;
-    fuel = length s;
-    enough = omega arith;
-    ahead = refl;
-  }
+module _ {s : List ℕ} {room at used : ℕ} {p : Progress} {cells : List ℤ} (a : Reached s room at used p cells) where
+  -- the elements in use fit the cells
+  in-cells : used ≤ length cells
+  in-cells = omega (arith, a .sound .elements, a .sound .clauses, a .sound .literals, a .long)
 
-module _ {s : List ℕ} {room at : ℕ} {p : Progress} {cells : List ℤ} (a : Reached s room at p cells) where
-  turn-of : turnAt (p .turn) ≡ a .read .turn
-  turn-of = ap (λ (n : Progress). turnAt (n .turn)) (sym (a .numbers)) ∙ turn-at-number (a .read .turn)
+  used-length : length (take used cells) ≡ used
+  used-length = length-take-le used cells in-cells
 
   -- the end of the strip
-  finished : length s ≤ at → whole s room ≡ finish (length s) (a .read) (turnAt (p .turn))
+  pub cut : length s ≤ at → same (p .turn) After ≡ false → notRead (refusal CutStrip (length s)) ≡ readStrip s room
   unfolding readFrom
-  finished l = rw turn-of (rw (le-ltb at (length s) l) at (sym (a .ahead)))
+  cut l e = rw (le-ltb at (length s) l, e) at (a .rest)
 
-  pub unfinished : length s ≤ at → (p .turn ≡ 3 → ⊥) → whole s room ≡ refuse CutStrip (length s)
-  unfinished l h = finished l ∙ go (a .read .turn) refl
-    where
-      go : (t : Turn) → a .read .turn ≡ t → finish (length s) (a .read) (turnAt (p .turn)) ≡ refuse CutStrip (length s)
-      go start e = rw (turn-of, e)
-      go outside e = rw (turn-of, e)
-      go inside e = rw (turn-of, e)
-      go after e = absurd (h (ap (λ (n : Progress). n .turn) (sym (a .numbers)) ∙ ap turnNumber e))
+  pub whole : length s ≤ at → same (p .turn) After ≡ true →
+      _≡_ {A = Decoding} (record { reading = Read (p .variables) used; table = take used cells }) (readStrip s room)
+  unfolding readFrom
+  whole l e = rw (le-ltb at (length s) l, e, used-length) at (a .rest)
 
-  pub passed : length s ≤ at → p .turn ≡ 3 →
-      decodingOf (whole s room) ≡ record { outcome = Passed; variables = p .variables; used = p .used; table = take (p .used) cells }
-  passed l h =
-      let e : whole s room ≡ goes (a .read) = finished l ∙ rw h in
-      ap decodingOf e ∙ rw (a .table) (ap as-numbered (a .numbers))
-    where
-      as-numbered : Progress → Decoding
-      as-numbered n = record { outcome = Passed; variables = n .variables; used = n .used; table = a .read .table }
+  followed : at < length s → follow s room (readFrom s room (a .fuel)) at p (take used cells) (commandAt s at (p .turn)) ≡ readStrip s room
+  unfolding readFrom
+  followed l = rw (lt-ltb at (length s) l) at (a .rest)
 
-  module _ (l : at < length s) where
-    followed : follow s room (readFrom s room (a .fuel)) at (a .read) (commandAt s at (turnAt (p .turn))) ≡ whole s room
-    unfolding readFrom
-    followed = rw turn-of (rw (lt-ltb at (length s) l) at (a .ahead))
+  pub no-command : at < length s → (f : Refusal) → command.Refused f ≡ commandAt s at (p .turn) → notRead f ≡ readStrip s room
+  no-command l f e = rw (← e) at (followed l)
 
-    -- a step that is refused
-    pub stopped : (f : Refusal) → step.Refused f ≡ stepAs (commandAt s at (turnAt (p .turn))) → whole s room ≡ stops f
-    stopped f = go (commandAt s at (turnAt (p .turn))) followed
+-- a command to be obeyed there
+pub record Commanded (s : List ℕ) (room at used : ℕ) (p : Progress) (cells : List ℤ) (m : Mark) (v next : ℕ) : Type 0 where
+  pub reached : Reached s room at used p cells
+  pub inside : at < length s
+  pub command : command.Command m v next ≡ commandAt s at (p .turn)
+
+module _ {s : List ℕ} {room at used : ℕ} {p : Progress} {cells : List ℤ} {m : Mark} {v next : ℕ} (c : Commanded s room at used p cells m v next) where
+  abbrev a : Reached s room at used p cells
+  a = c .reached
+
+  stands : Stands s at (p .turn) m v next
+  stands = rw (← c .command) at (command-says s at (p .turn))
+
+  pub further : at < next
+  further = omega (arith, stands .further)
+
+  obeying : onward s room (readFrom s room (a .fuel) next) at (take used cells) (obey p v m) ≡ readStrip s room
+  obeying = rw (← c .command) at (followed a (c .inside))
+
+  pub not-obeyed : (why : Fault) → obeyed.Refused why ≡ obey p v m → notRead (refusal why at) ≡ readStrip s room
+  not-obeyed why e = rw (← e) at obeying
+
+  module _ {q : Progress} {e : Stored} (g : obeyed.Goes q e ≡ obey p v m) where
+    sound : Sound q (used + elements e)
+    sound =
+        let d : Sound p (length (take used cells)) = rw (used-length a) (a .sound) in
+        let k : Sound q (length (take used cells) + elements e) = (rw (← g) at (obey-keeps s at next p (take used cells) d m v (stands .turn) (command-bytes s at stands))) .0 in
+        rw (used-length a) at k
+
+    storing-rest : storing s room (readFrom s room (a .fuel) next q) at (take used cells) e ≡ readStrip s room
+    storing-rest = rw (← g) at obeying
+
+    -- with the cells as they are then
+    reached : (cells′ : List ℤ) → length cells′ ≡ maxTable → readFrom s room (a .fuel) next q (take (used + elements e) cells′) ≡ readStrip s room →
+        Reached s room next (used + elements e) q cells′
+    reached cells′ long = go (a .fuel) (a .enough)
       where
-        go : (c : Command) → follow s room (readFrom s room (a .fuel)) at (a .read) c ≡ whole s room → step.Refused f ≡ stepAs c → whole s room ≡ stops f
-        go (command m v next) e q = let z : _≡_ {A = ℕ} 0 1 = cc in absurd (omega arith)
-        go (refused g) e q = let w : g ≡ f = cc in sym e ∙ ap stops w
+        go : (k : ℕ) → length s ≤ at + k → readFrom s room k next q (take (used + elements e) cells′) ≡ readStrip s room → Reached s room next (used + elements e) q cells′
+        go zero n r = absurd (omega (arith, c .inside))
+        go (suc k) n r = record { short = a .short; sound = sound; long = long; fuel = k; enough = omega (arith, further); rest = r }
 
-    -- a command, which is obeyed
-    pub record Obeying (b v next : ℕ) : Type 0 where
-      pub mark : Mark
-      pub is : markOf b ≡ some mark
-      pub turn : a .read .turn ≡ turnOf mark
-      pub further : at < next
-      pub rest : onward s room (readFrom s room (a .fuel)) next (obey room at (a .read) v mark) ≡ whole s room
+  pub kept : {q : Progress} → obeyed.Goes q Nothing ≡ obey p v m → Reached s room next used q cells
+  kept g = rw add-zero at (reached g cells (a .long) (rw add-zero (storing-rest g)))
 
-    module _ {b v next : ℕ} (c : step.Command b v next ≡ stepAs (commandAt s at (turnAt (p .turn)))) where
-      pub obeying : Obeying b v next
-      obeying = go (commandAt s at (turnAt (p .turn))) followed (command-says s at (turnAt (p .turn))) c
-        where
-          go : (c : Command) → follow s room (readFrom s room (a .fuel)) at (a .read) c ≡ whole s room → Says s at (turnAt (p .turn)) c →
-              step.Command b v next ≡ stepAs c → Obeying b v next
-          go (command m w n) e h q =
-              let pb : b ≡ byteOf m = cc in
-              let pv : w ≡ v = cc in
-              let pn : n ≡ next = cc in
-              record {
-                mark = m;
-                is = ap markOf pb ∙ mark-of-byte m;
-                turn = sym turn-of ∙ h .0;
-                further = omega (arith, h .1);
-                rest = rw (pv, pn) at e;
-              }
-          go (refused g) e h q = let z : _≡_ {A = ℕ} 0 1 = cc in absurd (omega arith)
+  module _ {q : Progress} {x : ℤ} (g : obeyed.Goes q (Element x) ≡ obey p v m) where
+    pub no-room : room ≤ used → notRead (refusal TableShort at) ≡ readStrip s room
+    no-room h = rw (le-ltb (length (take used cells)) room (omega (arith, used-length a))) at (storing-rest g)
 
-      -- what obeying it answers, as code says it
-      abbrev pub Answers : Obeyed → Type 0
-      Answers x = (q : Read) (m : Mark) → numbersOf q ≡ p → markOf b ≡ some m → x ≡ obeyedAs (obey room at q v m)
+    pub has-cell : used < maxTable
+    has-cell = let d = sound g in omega (arith, d .elements, d .clauses, d .literals)
 
-      answer : (x : Obeyed) → Answers x → x ≡ obeyedAs (obey room at (a .read) v (obeying .mark))
-      answer x h = h (a .read) (obeying .mark) (a .numbers) (obeying .is)
-
-      pub not-obeyed : (f : Refusal) → Answers (obeyed.Refused f) → whole s room ≡ stops f
-      not-obeyed f h = go (obey room at (a .read) v (obeying .mark)) (obeying .rest) (answer (obeyed.Refused f) h)
-        where
-          go : (x : Reading) → onward s room (readFrom s room (a .fuel)) next x ≡ whole s room → obeyed.Refused f ≡ obeyedAs x → whole s room ≡ stops f
-          go (goes q) e k = let z : _≡_ {A = ℕ} 0 1 = cc in absurd (omega arith)
-          go (stops g) e k = let w : g ≡ f = cc in sym e ∙ ap stops w
-
-      abbrev element : ℤ
-      element = elementOf (markOf b) v
-
-      module _ (p′ : Progress) (h : Answers (obeyed.Goes p′)) where
-        -- what has been read then
-        record Obeys : Type 0 where
-          pub read : Read
-          pub numbers : numbersOf read ≡ p′
-          pub sound : Sound room read
-          pub grows : Grows (a .read .table) element (goes read)
-          pub ahead : readFrom s room (a .fuel) next read ≡ whole s room
-
-        obeys : Obeys
-        obeys =
-            go (obey room at (a .read) v (obeying .mark)) (obeying .rest) (answer (obeyed.Goes p′) h)
-            (obey-keeps room at (a .read) (a .sound) v (obeying .mark) (obeying .turn))
-            (rw (obeying .is) (obey-grows room at (a .read) (a .sound .few-variables) v (obeying .mark)))
-          where
-            go : (x : Reading) → onward s room (readFrom s room (a .fuel)) next x ≡ whole s room → obeyed.Goes p′ ≡ obeyedAs x → Keeps room x →
-                Grows (a .read .table) element x → Obeys
-            go (goes q) e k d g = record { read = q; numbers = cc; sound = d; grows = g; ahead = e }
-            go (stops f) e k d g = let z : _≡_ {A = ℕ} 0 1 = cc in absurd (omega arith)
-
-        used : length (a .read .table) ≡ p .used
-        used = ap (λ (n : Progress). n .used) (a .numbers)
-
-        used′ : length (obeys .read .table) ≡ p′ .used
-        used′ = ap (λ (n : Progress). n .used) (obeys .numbers)
-
-        -- with the cells as they are then
-        reached : (cells′ : List ℤ) → length cells′ ≡ windowRoom → take (p′ .used) cells′ ≡ obeys .read .table → Reached s room next p′ cells′
-        reached cells′ long same = go (a .fuel) (a .enough) (obeys .ahead)
-          where
-            go : (k : ℕ) → length s ≤ at + k → readFrom s room k next (obeys .read) ≡ whole s room → Reached s room next p′ cells′
-            go zero n e = absurd (omega arith)
-            go (suc k) n e = record {
-              read = obeys .read;
-              numbers = obeys .numbers;
-              table = same;
-              long = long;
-              sound = obeys .sound;
-              fuel = k;
-              enough = omega (arith, obeying .further);
-              ahead = e;
-            }
-
-        -- nothing is stored
-        pub kept : p′ .used ≤ p .used → Reached s room next p′ cells
-        kept k = ⊎-elim
-            (λ e.
-            let u : p′ .used ≡ p .used = sym used′ ∙ ap length e ∙ used in
-            reached cells (a .long) (ap (λ (n : ℕ). take n cells) u ∙ a .table ∙ sym e))
-            (λ e. absurd (omega (arith, used, used′, ap length e, length-append (a .read .table) (element ∷ []))))
-            (obeys .grows)
-
-        module _ (k : p .used < p′ .used) where
-          pub in-cells : p .used < windowRoom
-          in-cells = omega (arith, used′, sound-length room (obeys .read) (obeys .sound))
-
-          -- an element is stored
-          pub stored : Reached s room next p′ (set cells (p .used) element)
-          stored = ⊎-elim
-              (λ e. absurd (omega (arith, used, used′, ap length e)))
-              (λ e.
-              let u : p′ .used ≡ suc (p .used) = omega (arith, used, used′, ap length e, length-append (a .read .table) (element ∷ [])) in
-              let new : List ℤ = set cells (p .used) element in
-              reached new (length-set cells (p .used) element ∙ a .long)
-              (ap (λ (n : ℕ). take n new) u ∙ take-suc-set cells (p .used) element (omega (arith, in-cells, a .long))
-              ∙ ap (λ (t : List ℤ). t ++ (element ∷ [])) (a .table) ∙ sym e))
-              (obeys .grows)
+    pub stored : used < room → Reached s room next (used + 1) q (set cells used x)
+    stored h = reached g (set cells used x) (length-set cells used x ∙ a .long)
+        (rw (add-one, take-suc-set cells used x (omega (arith, has-cell, a .long)))
+        (rw (lt-ltb (length (take used cells)) room (omega (arith, used-length a))) at (storing-rest g)))

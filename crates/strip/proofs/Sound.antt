@@ -1,206 +1,187 @@
--- What holds of all that has been read, command by command: within the limits, its counts are those of the table, the table is closed outside a group,
--- knows only variables from 1 to n and fits the room; and with room for a table at the limits no command is refused for want of room.
-use mathlib.Core.Path.{_≡_, refl, ap}
-use mathlib.Core.Bool.{Bool, true, false, not, _||_}
+-- What a command that is obeyed keeps: the numbers stay within the limits and count the elements that are stored, and what is left of the strip after it,
+-- by its grammar, is what was left before it without the command.
+use mathlib.Core.Path.{_≡_, refl, subst, _∙_}
+use mathlib.Core.Bool.{Bool, true, false, _||_}
 use mathlib.Core.Logic.{_≢_, ⊎-elim}
-use mathlib.Core.List.{List, [], _∷_, _++_, List·Memᴰ, List·Memᴰ·append-cases, List·Memᴰ·not-nil, List·Memᴰ·eq-of-singleton}
-use mathlib.Core.Option.{Option, none, some}
-use Prim.Native.Nat.{ℕ, zero, suc, _+_, _<_, _≤_}
+use mathlib.Core.List.{List, [], _∷_, _++_, append-assoc, List·Memᴰ·not-nil, List·Memᴰ·cases-cons}
+use Prim.Native.Nat.{ℕ, _+_, _<_, _≤_}
 use native.Mathlib.Omega.{arith}
-use borrow.Author.Tests.{ltb-true, ltb-false, eqb-true, eqb-false, ne-eqb}
-use lib.Dec.{eqb, ltb, leb}
-use lib.IntN.{ℤ, natAbs, pos as posℤ}
-use lib.ListN.{length, getD, length-append}
-use Rattle.general.specs.Booleans.{bit, true-not-false, cond-ind}
-use Rattle.literal.specs.Literal.{pos, neg, entryOf, maxVariables, maxClauses, maxLiterals}
-use Rattle.receipt.specs.declared.Refusal.{Refusal}
+use borrow.Author.Tests.{ltb-true, ltb-false, eqb-false}
+use lib.Dec.{eqb, ltb}
+use lib.IntN.{ℤ}
+use lib.ListN.{length, drop}
+use Rattle.general.specs.Booleans.{true-not-false, cond-ind}
+use Rattle.literal.specs.declared.Literal.{Literal}
+use Rattle.literal.specs.declared.Literal.the-variants.{Pos, Neg}
+use Rattle.literal.specs.Literal.{var, entryOf, maxVariables, maxClauses, maxLiterals, maxTable}
 use Rattle.receipt.specs.Receipt.{numberOf}
-use Rattle.theory.specs.Table.{closes, zeros, nonzeros, endsOpen}
-use Rattle.theory.specs.Calls.{windowRoom}
-use Rattle.theory.specs.Strip.{Mark, placements, chapter, opens, taken, leftOut, ends, Turn, start, outside, inside, after, turnNumber, turnOf, allowed, markOf, operandBytes, Command, command, refused, commandFor, commandAt, Read, Reading, goes, stops, nothingRead, store, literal, obey}
-use Rattle.theory.specs.Strip as strip
-use Rattle.strip.proofs.Marks.{number-injective}
-use Rattle.strip.proofs.Tables.{zeros-last, nonzeros-last, endsOpen-last, length-elements}
-
--- what is read ------------------------------------------------------------------------------------------------------
+use Rattle.theory.specs.declared.Mark.{Mark}
+use Rattle.theory.specs.declared.Mark.the-variants.{Placements, Chapter, Opens, Taken, LeftOut, Closes, Ends}
+use Rattle.theory.specs.declared.Turn.{Turn}
+use Rattle.theory.specs.declared.Turn.the-variants.{Start, Outside, Inside, After}
+use Rattle.theory.specs.declared.Progress.{Progress}
+use Rattle.theory.specs.declared.Stored.{Stored}
+use Rattle.theory.specs.declared.Stored.the-variants.{Nothing, Element}
+use Rattle.theory.specs.declared.Obeyed.{Obeyed}
+use Rattle.theory.specs.declared.Obeyed.the-variants.{Goes, Refused}
+use Rattle.theory.specs.Formula.{Clause, Formula}
+use Rattle.theory.specs.Strip.{turnOf, same, progress, entered, obey}
+use Rattle.theory.specs.Encoding.{Item, chapter, group, commandBytes, entryBytes, itemBytes, encode, groups, tableOf, entries, Bytes}
+use Rattle.theory.proofs.Tables.{InRange, push-range}
 
 -- inside a group its closing 0 is still to come
 abbrev pub pending : Turn → ℕ
-pending start = 0
-pending outside = 0
-pending inside = 1
-pending after = 0
+pending Start = 0
+pending Outside = 0
+pending Inside = 1
+pending After = 0
 
--- nothing stands before the placements, and outside a group all are closed
-abbrev pub Closed : Turn → List ℤ → Type 0
-Closed start t = t ≡ []
-Closed outside t = endsOpen false t ≡ false
-Closed inside t = Unit {0}
-Closed after t = endsOpen false t ≡ false
+pub record Sound (p : Progress) (used : ℕ) : Type 0 where
+  pub variables : p .variables ≤ maxVariables
+  pub clauses : p .clauses ≤ maxClauses
+  pub literals : p .literals ≤ maxLiterals
+  pub elements : used + pending (p .turn) ≡ p .clauses + p .literals
 
-pub record Sound (room : ℕ) (r : Read) : Type 0 where
-  pub few-variables : r .variables ≤ maxVariables
-  pub few-clauses : r .clauses ≤ maxClauses
-  pub few-literals : r .literals ≤ maxLiterals
-  pub clauses : zeros (r .table) + pending (r .turn) ≡ r .clauses
-  pub literals : nonzeros (r .table) ≡ r .literals
-  pub closed : Closed (r .turn) (r .table)
-  pub known : (e : ℤ) → List·Memᴰ e (r .table) → natAbs e ≤ r .variables
-  pub fits : length (r .table) ≤ room
+pub begun-sound : Sound (progress Start 0 0 0) 0
+begun-sound = record { variables = omega arith; clauses = omega arith; literals = omega arith; elements = refl }
 
-pub nothing-sound : (room : ℕ) → Sound room nothingRead
-unfolding zeros nonzeros endsOpen
-nothing-sound room = record {
-  few-variables = omega arith;
-  few-clauses = omega arith;
-  few-literals = omega arith;
-  clauses = refl;
-  literals = refl;
-  closed = refl;
-  known = λ e m. absurd (List·Memᴰ·not-nil m);
-  fits = omega arith;
-}
+-- how many elements are stored, and the table with them
+abbrev pub elements : Stored → ℕ
+elements Nothing = 0
+elements (Element e) = 1
 
--- 2,048 entries and 512 zeros
-pub sound-length : (room : ℕ) (r : Read) → Sound room r → length (r .table) + pending (r .turn) ≤ windowRoom
-sound-length room r s = omega (arith, length-elements (r .table), s .clauses, s .literals, s .few-clauses, s .few-literals)
+abbrev pub with : List ℤ → Stored → List ℤ
+with t Nothing = t
+with t (Element e) = t ++ (e ∷ [])
 
--- where there is room for a table at the limits, the refusal is not for want of room
-abbrev pub NotShort : Refusal → Type 0
-NotShort f = numberOf (f .fault) ≢ 23
+-- what is left of a strip: the entries of the open group, and the items after it
+abbrev pub ahead : Turn → ℕ → Clause → List Item → List ℕ
+ahead Start n c l = encode n l
+ahead Outside n c l = itemBytes l
+ahead Inside n c l = entryBytes c ++ (commandBytes Closes 0 ++ itemBytes l)
+ahead After n c l = []
 
-abbrev pub Keeps : ℕ → Reading → Type 0
-Keeps room (goes q) = Sound room q
-Keeps room (stops f) = windowRoom ≤ room → NotShort f
+abbrev pub coming : Turn → Clause → List Item → Formula
+coming Start c l = groups l
+coming Outside c l = groups l
+coming Inside c l = c ∷ groups l
+coming After c l = []
 
--- one element more ----------------------------------------------------------------------------------------------------
+-- with c groups and l entries read before it, of n variables
+pub record Allows (u : ℕ) (n c l : ℕ) (f : Formula) : Type 0 where
+  pub variables : n ≤ maxVariables
+  pub clauses : c + length f ≤ maxClauses + u
+  pub literals : l + entries f ≤ maxLiterals
+  pub known : InRange n f
 
-module _ (n : ℕ) (e : ℤ) (l : natAbs e ≤ n) (t : List ℤ) (h : (x : ℤ) → List·Memᴰ x t → natAbs x ≤ n) where
-  last-known : (x : ℤ) → List·Memᴰ x (t ++ (e ∷ [])) → natAbs x ≤ n
-  last-known x m = ⊎-elim (h x) (λ k. let q : x ≡ e = List·Memᴰ·eq-of-singleton k in rw q l) (List·Memᴰ·append-cases t m)
+module _ (s : List ℕ) where
+  -- from index i on, with t read before, to the table T of n variables
+  pub record Left (i : ℕ) (u : Turn) (p : Progress) (t : List ℤ) (n : ℕ) (T : List ℤ) : Type 0 where
+    pub clause : Clause
+    pub items : List Item
+    pub strip : Bytes s → drop i s ≡ ahead u n clause items
+    pub table : T ≡ t ++ tableOf (coming u clause items)
+    pub variables : same u Start ≡ false → n ≡ p .variables
+    pub allows : Allows (pending u) n (p .clauses) (p .literals) (coming u clause items)
 
-entry-size : (p : ℕ) → natAbs (entryOf (neg p)) ≡ p
-entry-size zero = refl
-entry-size (suc p) = refl
+  -- what obeying a mark at index i says of the strip from next on
+  abbrev pub Keeps : ℕ → ℕ → Progress → List ℤ → Turn → Obeyed → Type 0
+  Keeps i next p t u (Goes q e) = Sound q (length t + elements e) × ((n : ℕ) (T : List ℤ) → Left next (q .turn) q (with t e) n T → Left i u p t n T)
+  Keeps i next p t u (Refused why) = numberOf why ≢ 23
 
 -- an operand that is a variable from 1 to n
-pub known-variable : (n p : ℕ) → (eqb p 0 || ltb n p) ≡ false → (0 < p) × (p ≤ n)
-known-variable n p = go (eqb p 0) refl (ltb n p) refl
+pub known-variable : (n v : ℕ) → (eqb v 0 || ltb n v) ≡ false → (0 < v) × (v ≤ n)
+known-variable n v = go (eqb v 0) refl (ltb n v) refl
   where
-    go : (a : Bool) → eqb p 0 ≡ a → (b : Bool) → ltb n p ≡ b → (a || b) ≡ false → (0 < p) × (p ≤ n)
+    go : (a : Bool) → eqb v 0 ≡ a → (b : Bool) → ltb n v ≡ b → (a || b) ≡ false → (0 < v) × (v ≤ n)
     go true ea b eb e = absurd (true-not-false refl e)
     go false ea true eb e = absurd (true-not-false refl e)
-    go false ea false eb e = let h : p ≢ 0 = eqb-false p 0 ea in (omega arith, ltb-false n p eb)
+    go false ea false eb e = let h : v ≢ 0 = eqb-false v 0 ea in (omega arith, ltb-false n v eb)
 
-module _ (room i : ℕ) (r : Read) (s : Sound room r) where
-  module _ (t : r .turn ≡ inside) where
-    -- an entry, of a variable from 1 to n
-    entry-keeps : (p : ℕ) (e : ℤ) → natAbs e ≡ p → Keeps room (literal room i r p e)
-    entry-keeps p e a =
-        let c = rw t at (s .clauses) in
-        cond-ind (Keeps room) _ _ (eqb p 0 || ltb (r .variables) p)
-        (λ b w q. omega arith)
-        (λ b. cond-ind (Keeps room) _ _ (ltb (r .literals) maxLiterals)
-        (λ l. cond-ind (Keeps room) _ _ (ltb (length (r .table)) room)
-        (λ d.
-        let k = known-variable (r .variables) p b in
-        let o : closes e ≡ false = ne-eqb (natAbs e) 0 (λ z. omega (arith, k .0)) in
-        record {
-          few-variables = s .few-variables;
-          few-clauses = s .few-clauses;
-          few-literals = ltb-true (r .literals) maxLiterals l;
-          clauses = omega (arith, zeros-last e (r .table), ap bit o, c);
-          literals = omega (arith, nonzeros-last e (r .table), ap (λ (x : Bool). bit (not x)) o, s .literals);
-          closed = tt;
-          known = last-known (r .variables) e (omega (arith, k .1)) (r .table) (s .known);
-          fits = omega (arith, length-append (r .table) (e ∷ []), ltb-true (length (r .table)) room d);
-        })
-        (λ d w q. omega (
-          arith,
-          ltb-false (length (r .table)) room d,
-          length-elements (r .table),
-          c,
-          s .literals,
-          s .few-clauses,
-          ltb-true (r .literals) maxLiterals l,
-        )))
-        (λ l w q. omega arith))
+closed-range : (n : ℕ) (f : Formula) → InRange n f → InRange n ([] ∷ f)
+closed-range n f h c l mc ml = ⊎-elim (λ (q : c ≡ []). absurd (List·Memᴰ·not-nil (rw q at ml))) (λ m. h c l m ml) (List·Memᴰ·cases-cons mc)
 
-    closing-keeps : Keeps room (store room i outside (r .literals) r (posℤ 0))
-    closing-keeps =
-        let c = rw t at (s .clauses) in
-        cond-ind (Keeps room) _ _ (ltb (length (r .table)) room)
-        (λ b. record {
-          few-variables = s .few-variables;
-          few-clauses = s .few-clauses;
-          few-literals = s .few-literals;
-          clauses = omega (arith, zeros-last (posℤ 0) (r .table), c);
-          literals = omega (arith, nonzeros-last (posℤ 0) (r .table), s .literals);
-          closed = endsOpen-last (posℤ 0) false (r .table);
-          known = last-known (r .variables) (posℤ 0) (omega arith) (r .table) (s .known);
-          fits = omega (arith, length-append (r .table) (posℤ 0 ∷ []), ltb-true (length (r .table)) room b);
-        })
-        (λ b w q. omega (arith, ltb-false (length (r .table)) room b, sound-length room r s, ap pending t))
+module _ (s : List ℕ) (i next : ℕ) (p : Progress) (t : List ℤ) (d : Sound p (length t)) where
+  -- an entry
+  entered-keeps : p .turn ≡ Inside → (l : Literal) →
+      (Bytes s → (c : Clause) (r : List ℕ) → drop next s ≡ entryBytes c ++ r → drop i s ≡ entryBytes (l ∷ c) ++ r) → Keeps s i next p t Inside (entered p l)
+  unfolding tableOf entries
+  entered-keeps e l c = cond-ind (Keeps s i next p t Inside) _ _ (eqb (var l) 0 || ltb (p .variables) (var l))
+      (λ b z. omega arith)
+      (λ b. cond-ind (Keeps s i next p t Inside) _ _ (ltb (p .literals) maxLiterals)
+      (λ k. (
+        record { variables = d .variables; clauses = d .clauses; literals = omega (arith, ltb-true (p .literals) maxLiterals k); elements = omega (arith, rw e at (d .elements)) },
+        λ n T a.
+            let v = known-variable (p .variables) (var l) b in
+            record {
+              clause = l ∷ a .clause;
+              items = a .items;
+              strip = λ y. c y (a .clause) _ (a .strip y);
+              table = a .table ∙ append-assoc t (entryOf l ∷ []) _;
+              variables = a .variables;
+              allows = record {
+                variables = a .allows .variables;
+                clauses = a .allows .clauses;
+                literals = omega (arith, a .allows .literals);
+                known = push-range n l (v .0) (rw (a .variables refl) (v .1)) (a .clause ∷ groups (a .items)) (a .allows .known);
+              };
+            },
+      ))
+      (λ k z. omega arith))
 
-  empty : r .turn ≡ start → r .table ≡ []
-  empty t = rw t at (s .closed)
-
-  pub obey-keeps : (v : ℕ) (m : Mark) → r .turn ≡ turnOf m → Keeps room (obey room i r v m)
-  unfolding obey endsOpen
-  obey-keeps v placements t = cond-ind (Keeps room) _ _ (ltb maxVariables v)
-      (λ b w q. omega arith)
-      (λ b. record {
-        few-variables = ltb-false maxVariables v b;
-        few-clauses = s .few-clauses;
-        few-literals = s .few-literals;
-        clauses = rw t at (s .clauses);
-        literals = s .literals;
-        closed = rw (empty t);
-        known = λ e m. absurd (List·Memᴰ·not-nil (rw (empty t) at m));
-        fits = s .fits;
-      })
-  obey-keeps v chapter t = s
-  obey-keeps v opens t = cond-ind (Keeps room) _ _ (ltb (r .clauses) maxClauses)
-      (λ b. record {
-        few-variables = s .few-variables;
-        few-clauses = ltb-true (r .clauses) maxClauses b;
-        few-literals = s .few-literals;
-        clauses = omega (arith, rw t at (s .clauses));
-        literals = s .literals;
-        closed = tt;
-        known = s .known;
-        fits = s .fits;
-      })
-      (λ b w q. omega arith)
-  obey-keeps v taken t = entry-keeps t v (entryOf (pos v)) refl
-  obey-keeps v leftOut t = entry-keeps t v (entryOf (neg v)) (entry-size v)
-  obey-keeps v strip.closes t = closing-keeps t
-  obey-keeps v ends t = record {
-    few-variables = s .few-variables;
-    few-clauses = s .few-clauses;
-    few-literals = s .few-literals;
-    clauses = rw t at (s .clauses);
-    literals = s .literals;
-    closed = rw t at (s .closed);
-    known = s .known;
-    fits = s .fits;
-  }
-
--- a command ----------------------------------------------------------------------------------------------------------
-
--- what it says that there is a command: its mark is allowed, and the next one stands further on
-abbrev pub Says : List ℕ → ℕ → Turn → Command → Type 0
-Says s i t (command m v next) = (t ≡ turnOf m) × (i < next)
-Says s i t (refused f) = NotShort f
-
-pub command-says : (s : List ℕ) (i : ℕ) (t : Turn) → Says s i t (commandAt s i t)
-unfolding commandAt
-command-says s i t = go (markOf (getD s i 0))
-  where
-    go : (o : Option Mark) → Says s i t (commandFor s i t o)
-    go none = λ q. omega arith
-    go (some m) = cond-ind (Says s i t) _ _ (allowed t m)
-        (λ a. cond-ind (Says s i t) _ _ (leb (i + 1 + operandBytes m) (length s))
-        (λ b. (number-injective t (turnOf m) (eqb-true (turnNumber t) (turnNumber (turnOf m)) a), omega arith))
-        (λ b q. omega arith))
-        (λ a q. omega arith)
+  pub obey-keeps : (m : Mark) (v : ℕ) → p .turn ≡ turnOf m → (Bytes s → drop i s ≡ commandBytes m v ++ drop next s) → Keeps s i next p t (turnOf m) (obey p v m)
+  unfolding obey entryBytes itemBytes groups tableOf entries
+  obey-keeps Placements v e c = cond-ind (Keeps s i next p t Start) _ _ (ltb maxVariables v)
+      (λ b z. omega arith)
+      (λ b. (
+        record { variables = ltb-false maxVariables v b; clauses = d .clauses; literals = d .literals; elements = omega (arith, rw e at (d .elements)) },
+        λ n T a. record {
+          clause = [];
+          items = a .items;
+          strip = λ y. c y ∙ rw (a .strip y, a .variables refl);
+          table = a .table;
+          variables = λ q. absurd (true-not-false refl q);
+          allows = a .allows;
+        },
+      ))
+  obey-keeps Chapter v e c = (
+    record { variables = d .variables; clauses = d .clauses; literals = d .literals; elements = omega (arith, d .elements) },
+    λ n T a. let o = subst (λ (u : Turn). Left s next u p t n T) e a in record {
+      clause = [];
+      items = chapter v ∷ o .items;
+      strip = λ y. c y ∙ rw (o .strip y);
+      table = o .table;
+      variables = o .variables;
+      allows = o .allows;
+    },
+  )
+  obey-keeps Opens v e c = cond-ind (Keeps s i next p t Outside) _ _ (ltb (p .clauses) maxClauses)
+      (λ b. (
+        record { variables = d .variables; clauses = omega (arith, ltb-true (p .clauses) maxClauses b); literals = d .literals; elements = omega (arith, rw e at (d .elements)) },
+        λ n T a. let k = a .allows in record {
+          clause = [];
+          items = group (a .clause) ∷ a .items;
+          strip = λ y. c y ∙ rw (a .strip y);
+          table = a .table;
+          variables = a .variables;
+          allows = record { variables = k .variables; clauses = omega (arith, k .clauses); literals = k .literals; known = k .known };
+        },
+      ))
+      (λ b z. omega arith)
+  obey-keeps Taken v e c = entered-keeps e (Pos v) (λ y b r q. c y ∙ rw q)
+  obey-keeps LeftOut v e c = entered-keeps e (Neg v) (λ y b r q. c y ∙ rw q)
+  obey-keeps Closes v e c = (
+    record { variables = d .variables; clauses = d .clauses; literals = d .literals; elements = omega (arith, rw e at (d .elements)) },
+    λ n T a. let k = a .allows in record {
+      clause = [];
+      items = a .items;
+      strip = λ y. c y ∙ rw (a .strip y);
+      table = a .table ∙ append-assoc t _ _;
+      variables = a .variables;
+      allows = record { variables = k .variables; clauses = omega (arith, k .clauses); literals = omega (arith, k .literals); known = closed-range n (groups (a .items)) (k .known) };
+    },
+  )
+  obey-keeps Ends v e c = (
+    record { variables = d .variables; clauses = d .clauses; literals = d .literals; elements = omega (arith, rw e at (d .elements)) },
+    λ n T a. record { clause = []; items = []; strip = λ y. c y ∙ rw (a .strip y); table = a .table; variables = a .variables; allows = a .allows },
+  )

@@ -1,21 +1,20 @@
 -- The steps that some rule asks at a state, in any clause and any order; the fixed order of document 01 picks one of them.
 use mathlib.Core.Path.{_≡_, refl, ap, sym, _∙_}
-use mathlib.Core.Bool.{Bool, true, false, not, _&&_, _||_, cond}
+use mathlib.Core.Bool.{true, false, not, _&&_}
 use mathlib.Core.Logic.{_⊎_, inl, inr, _≢_, ⊎-elim}
-use mathlib.Core.Option.{Option, none, some, Option·map, Option·none-ne-some, orElse, Option·some-injective as some-injective}
+use mathlib.Core.Option.{Option, none, some, Option·map, Option·none-ne-some, Option·some-injective as some-injective}
 use mathlib.Core.List.{List, [], _∷_, map, List·Memᴰ, List·Memᴰ·head, List·Memᴰ·tail, List·Memᴰ·not-nil, List·Memᴰ·cases-cons}
-use Prim.Native.Nat.{ℕ, zero, suc, _+_, _<_, _≤_}
+use Prim.Native.Nat.{ℕ, suc, _<_, _≤_}
 use native.Mathlib.Omega.{arith}
-use native.Mathlib.Decide.{ℕ-discrete}
 use lib.Dec.{eqb, leb, ltb}
 use lib.ListN.{length}
 use borrow.Author.Tests.{eqb-true, eqb-false, leb-true, ltb-true, ltb-false, not-true}
-use Rattle.general.specs.Booleans.{bool-cases, cond-ind, and-true, or-true}
-use Rattle.general.specs.Lists.{Before, here, later, before-left, before-right}
+use Rattle.general.specs.Booleans.{bool-cases, and-true, or-true}
+use Rattle.general.specs.Lists.{Before, here, later, before-left}
 use Rattle.general.specs.Options.{orElse-none, orElse-some, cond-some, map-some, map-none, bind-some}
 use Rattle.general.specs.Search.{find, any, find-some, any-true}
 use Rattle.literal.specs.declared.Literal.{Literal}
-use Rattle.literal.specs.Literal.{TRUE, FALSE, var, opposite, same, isOpen}
+use Rattle.literal.specs.Literal.{TRUE, FALSE, var, opposite, isOpen}
 use Rattle.theory.specs.Formula.{Clause, Formula, Within}
 use Rattle.theory.specs.State.{State, value, standing, WellFormed}
 use Rattle.theory.specs.declared.Step.{Step}
@@ -23,15 +22,17 @@ use Rattle.theory.specs.declared.Step.the-variants.{DeadEnd, Becomes}
 use Rattle.theory.specs.Rules.{occurs, stands, noneTrue, differ, complementary, other, isNone, partner, pairIn, live, tie, rule1, rule2, rule3, rule4, rule5, rule6, rule7, rule8}
 use Rattle.theory.specs.declared.Asked.{Asked}
 use Rattle.theory.specs.Propagation.{firstClause, firstPair, ask, step}
-use Rattle.theory.proofs.Literals.{var-opposite}
-use Rattle.theory.proofs.States.{Fixed, Valid, fixed-opposite, value-fixed, value-low, well-based, base-true, base-false}
-use Rattle.theory.proofs.Clauses.{Stems, standing-mem, occurs-mem, stands-mem}
+use Rattle.theory.proofs.Literals.{opposite-opposite, var-opposite}
+use Rattle.theory.proofs.States.{Fixed, Valid, value-opposite, fixed-opposite, value-fixed, value-low, well-based, base-true, base-false}
+use Rattle.theory.proofs.Clauses.{standing-mem, occurs-mem, stands-mem}
 use Rattle.theory.proofs.Closed.{NoFalse, Quiet, open-of, not-true-of}
 
--- exactly one of x and y is true: the higher becomes the opposite of the lower
-pub data Ties (x y : Literal) : Literal → Literal → Type 0 where
-  up : var x < var y → Ties x y y (opposite x)
-  down : var y < var x → Ties x y x (opposite y)
+-- that x becomes t where exactly one of y and z is true
+pub record Ties (y z x t : Literal) : Type 0 where
+  -- a state in which they are opposites takes both sides of the step for the same
+  pub alike : (u : State) → value u z ≡ opposite (value u y) → value u x ≡ value u t
+  pub apart : var y ≢ var z
+  pub valid : (n : ℕ) (s : State) → Fixed s y → Fixed s z → var y ≤ n → var z ≤ n → Valid n s x t
 
 -- rules 2 to 6 in a clause as it stands
 pub data AsksOne (c : Clause) : Literal → Literal → Type 0 where
@@ -82,18 +83,7 @@ module _ {n : ℕ} {f : Formula} {s : State} (within : Within n f) (w : WellForm
     valid-false x m o = record { fixed-x = standing-fixed c x m; fixed-t = base-false (well-based w); lower = o; inside = standing-inside c x mc m }
 
     valid-ties : {x t : Literal} (y z : Literal) → List·Memᴰ y (standing s c) → List·Memᴰ z (standing s c) → Ties y z x t → Valid n s x t
-    valid-ties y z my mz (up l) = record {
-      fixed-x = standing-fixed c z mz;
-      fixed-t = fixed-opposite s y (standing-fixed c y my);
-      lower = omega (arith, var-opposite y);
-      inside = standing-inside c z mc mz;
-    }
-    valid-ties y z my mz (down l) = record {
-      fixed-x = standing-fixed c y my;
-      fixed-t = fixed-opposite s z (standing-fixed c z mz);
-      lower = omega (arith, var-opposite z);
-      inside = standing-inside c y mc my;
-    }
+    valid-ties y z my mz t = t .valid n s (standing-fixed c y my) (standing-fixed c z mz) (standing-inside c y mc my) (standing-inside c z mc mz)
 
     valid-one : {x t : Literal} → AsksOne (standing s c) x t → Valid n s x t
     valid-one (one-true {x = x} a m o) = valid-false x m o
@@ -128,9 +118,18 @@ Two g h DeadEnd = ⊥
 Two g h (Becomes x t) = AsksTwo g h x t
 
 tied : (P : Step → Type 0) (y z : Literal) → var y ≢ var z → ((x t : Literal) → Ties y z x t → P (Becomes x t)) → P (tie y z)
-tied P y z d k = cond-ind P (Becomes z (opposite y)) (Becomes y (opposite z)) (ltb (var y) (var z))
-    (λ e. k z (opposite y) (up (ltb-true (var y) (var z) e)))
-    (λ e. k y (opposite z) (down (let h = ltb-false (var y) (var z) e in omega arith)))
+tied P y z d k = ⊎-elim
+    (λ (e : ltb (var y) (var z) ≡ true). rw e (k _ _ (record {
+      alike = λ u q. q ∙ sym (value-opposite u y);
+      apart = d;
+      valid = λ n s fy fz iy iz. record { fixed-x = fz; fixed-t = fixed-opposite s y fy; lower = omega (arith, var-opposite y, ltb-true (var y) (var z) e); inside = iz };
+    })))
+    (λ (e : ltb (var y) (var z) ≡ false). rw e (k _ _ (record {
+      alike = λ u q. sym (opposite-opposite (value u y)) ∙ ap opposite (sym q) ∙ sym (value-opposite u z);
+      apart = d;
+      valid = λ n s fy fz iy iz. record { fixed-x = fy; fixed-t = fixed-opposite s z fz; lower = omega (arith, var-opposite z, ltb-false (var y) (var z) e); inside = iy };
+    })))
+    (bool-cases (ltb (var y) (var z)))
 
 differs : (x y : Literal) → differ x y ≡ true → var x ≢ var y
 differs x y e = eqb-false (var x) (var y) (not-true _ e)

@@ -15,13 +15,13 @@ use Rattle.literal.specs.declared.Literal.the-variants.{Pos}
 use Rattle.literal.specs.Literal.{TRUE, FALSE, var}
 use Rattle.theory.specs.Formula.{Clause, Formula, Assignment, Choice, assignment, Within}
 use Rattle.theory.specs.Order.{_≼_, Least, IsLeast}
-use Rattle.theory.specs.State.{State, assign, standing, opens, WellFormed}
+use Rattle.theory.specs.State.{State, assign, standing, opens, Open, WellFormed}
 use Rattle.theory.specs.Search.{branchVariable, splitOn}
-use Rattle.theory.proofs.States.{Fixed, well-based, base-true, base-false, Valid, assign-well, opens-assign}
+use Rattle.theory.proofs.States.{Side, side}
 use Rattle.theory.proofs.Closed.{Closed}
 use Rattle.theory.proofs.Order.{≼-trans}
 use Rattle.theory.proofs.Agreement.{Extends, count-alike, count-standing, extends-assign}
-use Rattle.theory.proofs.Live.{InLive, in-live, live-positive, live-root, live-inside, branch-least}
+use Rattle.theory.proofs.Live.{InLive, in-live, live-open, branch-least}
 use Rattle.theory.proofs.Leaves.{choiceFrom, ≼-roots, choice-root, choice-extends, leaf-first}
 use Rattle.theory.proofs.Tree.{Branches, Means}
 
@@ -38,18 +38,12 @@ cleared-from a p q h = rw (le-ltb q p h)
 module _ {n : ℕ} {f : Formula} {s : State} (w : WellFormed n s) (within : Within n f) (closed : (c : Clause) → List·Memᴰ c f → Closed (standing s c)) where
   -- p is the variable to split on
   module _ (p : ℕ) (b : Least _≤_ (InLive f s) p) where
-    positive : 0 < p
-    positive = live-positive (b .member)
-
-    inside : p ≤ n
-    inside = live-inside w within (b .member)
-
-    root : s p ≡ Pos p
-    root = live-root w within (b .member)
+    opened : Open n s p
+    opened = live-open w within (b .member)
 
     -- clearing the open variables below p keeps a solution, since they stand in no live clause
     cleared-extends : (c : Choice) → Extends n f s c → Extends n f s (choiceFrom n s (cleared (assignment c) p))
-    cleared-extends c e = choice-extends w within closed (cleared (assignment c) p) (cleared-below (assignment c) p 0 positive) (λ d m k.
+    cleared-extends c e = choice-extends w within closed (cleared (assignment c) p) (cleared-below (assignment c) p 0 (opened .positive)) (λ d m k.
         count-alike (cleared (assignment c) p) (assignment c) (standing s d)
         (λ l h. cleared-from (assignment c) p (var l) (b .least (var l) (in-live d m k l h))) ∙
         count-standing (e .agrees) refl d ∙
@@ -57,14 +51,14 @@ module _ {n : ℕ} {f : Formula} {s : State} (w : WellFormed n s) (within : With
 
     branch-before : (c d : Choice) → Least _≼_ (Extends n f (assign (Pos p) FALSE s)) c → Extends n f (assign (Pos p) TRUE s) d → c ≼ d
     branch-before c d first taken = ≼-trans c e d
-        (first .least e (extends-assign s (Pos p) FALSE root n f e .1 (still, left-out)))
+        (first .least e (extends-assign s (Pos p) FALSE (opened .root) n f e .1 (still, left-out)))
         (≼-roots w e d (still .solves .long) (right .0 .solves .long) (still .agrees) (right .0 .agrees) follows)
       where
         left : Extends n f s c × (assignment c p ≡ false)
-        left = extends-assign s (Pos p) FALSE root n f c .0 (first .member)
+        left = extends-assign s (Pos p) FALSE (opened .root) n f c .0 (first .member)
 
         right : Extends n f s d × (assignment d p ≡ true)
-        right = extends-assign s (Pos p) TRUE root n f d .0 taken
+        right = extends-assign s (Pos p) TRUE (opened .root) n f d .0 taken
 
         v : Assignment
         v = cleared (assignment c) p
@@ -76,10 +70,10 @@ module _ {n : ℕ} {f : Formula} {s : State} (w : WellFormed n s) (within : With
         still = cleared-extends c (left .0)
 
         at-root : (q : ℕ) → s q ≡ Pos q → q ≤ n → assignment e q ≡ v q
-        at-root = choice-root w v (cleared-below (assignment c) p 0 positive)
+        at-root = choice-root w v (cleared-below (assignment c) p 0 (opened .positive))
 
         left-out : assignment e p ≡ false
-        left-out = at-root p root inside ∙ cleared-from (assignment c) p p (omega arith) ∙ left .1
+        left-out = at-root p (opened .root) (opened .inside) ∙ cleared-from (assignment c) p p (omega arith) ∙ left .1
 
         follows : (q : ℕ) → 0 < q → q ≤ n → s q ≡ Pos q → ((r : ℕ) → r < q → assignment e r ≡ assignment d r) → assignment e q ≡ true → assignment d q ≡ true
         follows q low high r alike one = elim (decLt q p) [
@@ -90,27 +84,24 @@ module _ {n : ℕ} {f : Formula} {s : State} (w : WellFormed n s) (within : With
           ]
         ]
 
-    valid : (t : Literal) → Fixed s t → var t ≡ 0 → Valid n s (Pos p) t
-    valid t e z = record { fixed-x = root; fixed-t = e; lower = omega (arith, positive); inside = inside }
-
     pub branch-branches : Branches (WellFormed n) (λ u. opens u n) (Extends n f) _≼_ s (assign (Pos p) FALSE s) (assign (Pos p) TRUE s)
     branch-branches = record {
-      good-left = assign-well w left-out;
-      good-right = assign-well w taken;
-      less-left = omega (arith, opens-assign w left-out n positive inside);
-      less-right = omega (arith, opens-assign w taken n positive inside);
-      into = λ c e. ⊎-elim (λ h. inr (extends-assign s (Pos p) TRUE root n f c .1 (e, h))) (λ h. inl (extends-assign s (Pos p) FALSE root n f c .1 (e, h)))
+      good-left = left-out .well;
+      good-right = taken .well;
+      less-left = omega (arith, left-out .closes);
+      less-right = omega (arith, taken .closes);
+      into = λ c e. ⊎-elim (λ h. inr (extends-assign s (Pos p) TRUE (opened .root) n f c .1 (e, h))) (λ h. inl (extends-assign s (Pos p) FALSE (opened .root) n f c .1 (e, h)))
           (bool-cases (assignment c p));
-      from-left = λ c e. extends-assign s (Pos p) FALSE root n f c .0 e .0;
-      from-right = λ c e. extends-assign s (Pos p) TRUE root n f c .0 e .0;
+      from-left = λ c e. extends-assign s (Pos p) FALSE (opened .root) n f c .0 e .0;
+      from-right = λ c e. extends-assign s (Pos p) TRUE (opened .root) n f c .0 e .0;
       before = branch-before;
     }
       where
-        left-out : Valid n s (Pos p) FALSE
-        left-out = valid FALSE (base-false (well-based w)) refl
+        left-out : Side n s (assign (Pos p) FALSE s)
+        left-out = side w opened FALSE refl
 
-        taken : Valid n s (Pos p) TRUE
-        taken = valid TRUE (base-true (well-based w)) refl
+        taken : Side n s (assign (Pos p) TRUE s)
+        taken = side w opened TRUE refl
 
   pub splitOn-means : Means (WellFormed n) (λ u. opens u n) (Extends n f) _≼_ s (splitOn n s (branchVariable f s))
   splitOn-means = go (branchVariable f s) (branch-least f s closed)

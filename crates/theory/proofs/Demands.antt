@@ -3,7 +3,7 @@ use mathlib.Core.Path.{_≡_, refl, ap, sym, _∙_}
 use mathlib.Core.Bool.{true}
 use mathlib.Core.Logic.{_⊎_, ⊎-elim, _↔_}
 use mathlib.Core.Option.{Option, none, some}
-use mathlib.Core.List.{List}
+use mathlib.Core.List.{List, [], _∷_}
 use Prim.Native.Nat.{ℕ, zero, suc, _<_, _≤_, min}
 use native.Mathlib.Omega.{arith}
 use lib.IntN.{ℤ}
@@ -11,13 +11,14 @@ use Rattle.theory.specs.Bound.{N}
 use Rattle.theory.specs.Formula.{Formula, Choice, assignment, clauses, Solution, Within}
 use Rattle.theory.specs.Order.{_≼_, Least, IsLeast, IsFirst}
 use Rattle.theory.specs.Propagation.{Settled, dead, rest, settle}
-use Rattle.theory.specs.Search.{decided, decide, treeOf, search}
+use Rattle.receipt.specs.declared.Outcome.the-variants.{LaidOut, NoLayout, Stopped}
+use Rattle.theory.specs.Search.{decided, decide, treeFrom, treeOf, needs, search}
 use Rattle.theory.specs.State.{State, initial, opens, WellFormed}
 use Rattle.theory.specs.Table.{Accepted}
-use Rattle.theory.specs.Tree.{Found, Run, tree, Outcome, laidOut, noLayout, stopped, finished, limited}
+use Rattle.theory.specs.Tree.{Found, visit, tree, finished, finish}
 use Rattle.theory.proofs.Agreement.{Extends}
 use Rattle.theory.proofs.Branching.{splitOn-means}
-use Rattle.theory.proofs.Budget.{stopped-iff, count-min, larger-budget, finished-outcome}
+use Rattle.theory.proofs.Budget.{stopped-iff, count-min, larger-budget, limited-finished}
 use Rattle.theory.proofs.Propagation.{initial-well, Ended, Ends}
 use Rattle.theory.proofs.Solutions.{Sol, Keeps, settling-keeps-solutions}
 use Rattle.theory.proofs.Splits.{rests-closed, settle-ends, tree-bound}
@@ -51,7 +52,7 @@ module _ {n : ℕ} {f : Formula} (within : Within n f) where
   pub tree-first-solution : IsFirst (Solution n f) (choiceFound (treeOf n f .found))
   unfolding treeOf
   tree-first-solution = go (choiceFound (treeOf n f .found))
-      (tree-first (WellFormed n) (λ u. opens u n) (Extends n f) _≼_ (decide n f) decide-means (suc n) initial (initial-well n) (omega (arith, opens-bound initial n)))
+      (tree-first (WellFormed n) (λ u. opens u n) (Extends n f) _≼_ (decide n f) decide-means (suc n) 0 initial (initial-well n) (omega (arith, opens-bound initial n)))
     where
       agrees : (c : Choice) → Solution n f c → Extends n f initial c
       agrees c h = record { solves = h; agrees = record { at = λ p. refl } }
@@ -61,46 +62,50 @@ module _ {n : ℕ} {f : Formula} (within : Within n f) where
       go (some c) h = record { member = h .member .solves; least = λ d k. h .least d (agrees d k) }
 
   -- the fuel of the tree is only a way to define it
-  pub tree-enough-fuel : (k j : ℕ) → n < k → n < j → tree (decide n f) k initial ≡ tree (decide n f) j initial
-  tree-enough-fuel k j p q =
-      tree-fuel (WellFormed n) (λ u. opens u n) (Extends n f) _≼_ (decide n f) decide-means k j initial (initial-well n)
-      (omega (arith, opens-bound initial n)) (omega (arith, opens-bound initial n))
+  pub tree-enough-fuel : (s : State) → WellFormed n s → (k j : ℕ) → n < k → n < j → tree (decide n f) k 1 s ≡ tree (decide n f) j 1 s
+  tree-enough-fuel s w k j p q =
+      tree-fuel (WellFormed n) (λ u. opens u n) (Extends n f) _≼_ (decide n f) decide-means k j 1 s w (omega (arith, opens-bound s n)) (omega (arith, opens-bound s n))
+
+  -- so the tree from a state is what is decided of it, and the trees from its sides
+  pub tree-step : (s : State) → WellFormed n s → treeFrom n f s ≡ visit (tree (decide n f) (suc n)) 1 (decide n f s)
+  unfolding tree
+  tree-step s w = tree-enough-fuel s w (suc n) (suc (suc n)) (omega arith) (omega arith)
 
 -- demands 2 and 3, of the search of an accepted table with an allowance of b ----------------------------------------
 
--- what the tree of a table needs
-abbrev pub needs : ℕ → List ℤ → ℕ
-needs n t = treeOf n (clauses t) .splits
-
 module _ (n : ℕ) (t : List ℤ) (accepted : Accepted n t) where
-  solved : IsFirst (Solution n (clauses t)) (choiceFound (treeOf n (clauses t) .found))
+  abbrev found : List (Found Choice)
+  found = treeOf n (clauses t) .found
+
+  solved : IsFirst (Solution n (clauses t)) (choiceFound found)
   solved = tree-first-solution (accepted-within n t accepted)
 
-  outcome-found : (b : ℕ) → ¬ (search n t b .outcome ≡ stopped) → search n t b .outcome ≡ finished (treeOf n (clauses t) .found)
+  search-finished : (b : ℕ) → ¬ (search n t b .outcome ≡ Stopped) → search n t b ≡ finish (treeOf n (clauses t))
   unfolding search
-  outcome-found b h = finished-outcome b (treeOf n (clauses t)) h
+  search-finished b = limited-finished b (treeOf n (clauses t))
 
   -- demand 2: "it is the first such choice"
-  pub laid-out-is-first : (b : ℕ) (a : Found Choice) → search n t b .outcome ≡ laidOut a → Least _≼_ (Solution n (clauses t)) (a .choice)
-  laid-out-is-first b a e = go (treeOf n (clauses t) .found) solved (sym (outcome-found b not-stopped) ∙ e)
+  pub laid-out-is-first : (b : ℕ) → search n t b .outcome ≡ LaidOut →
+      (a : Found Choice) × (l : List (Found Choice)) × (search n t b .found ≡ a ∷ l) × Least _≼_ (Solution n (clauses t)) (a .choice)
+  laid-out-is-first b e =
+      let f = search-finished b (λ q. let z : _≡_ {A = ℕ} 0 1 = cc in omega arith) in
+      rw (ap (λ r. r .found) f) (go found solved (sym (ap (λ r. r .outcome) f) ∙ e))
     where
-      not-stopped : ¬ (search n t b .outcome ≡ stopped)
-      not-stopped q = let z : _≡_ {A = ℕ} 0 1 = cc in omega arith
-
-      go : (o : Option (Found Choice)) → IsFirst (Solution n (clauses t)) (choiceFound o) → finished o ≡ laidOut a → Least _≼_ (Solution n (clauses t)) (a .choice)
-      go none h q = absurd (let z : _≡_ {A = ℕ} 0 1 = cc in omega arith)
-      go (some c) h q = let i : c ≡ a = cc in rw i at h
+      go : (x : List (Found Choice)) → IsFirst (Solution n (clauses t)) (choiceFound x) → finished x ≡ LaidOut →
+          (a : Found Choice) × (l : List (Found Choice)) × (x ≡ a ∷ l) × Least _≼_ (Solution n (clauses t)) (a .choice)
+      go [] h q = absurd (let z : _≡_ {A = ℕ} 0 1 = cc in omega arith)
+      go (a ∷ l) h q = (a, l, refl, h)
 
   -- demand 2: "When no choice does so it reports no layout, and at no other time"
-  pub no-layout-iff : (b : ℕ) → ¬ (search n t b .outcome ≡ stopped) → (search n t b .outcome ≡ noLayout) ↔ ((c : Choice) → ¬ Solution n (clauses t) c)
-  no-layout-iff b h = (λ e. go (treeOf n (clauses t) .found) solved .0 (sym (outcome-found b h) ∙ e), λ k. outcome-found b h ∙ go (treeOf n (clauses t) .found) solved .1 k)
+  pub no-layout-iff : (b : ℕ) → ¬ (search n t b .outcome ≡ Stopped) → (search n t b .outcome ≡ NoLayout) ↔ ((c : Choice) → ¬ Solution n (clauses t) c)
+  no-layout-iff b h = rw (ap (λ r. r .outcome) (search-finished b h)) (go found solved)
     where
-      go : (o : Option (Found Choice)) → IsFirst (Solution n (clauses t)) (choiceFound o) → (finished o ≡ noLayout) ↔ ((c : Choice) → ¬ Solution n (clauses t) c)
-      go none f = (λ e. f, λ k. refl)
-      go (some a) f = (λ e. absurd (let z : _≡_ {A = ℕ} 0 1 = cc in omega arith), λ k. absurd (k (a .choice) (f .member)))
+      go : (x : List (Found Choice)) → IsFirst (Solution n (clauses t)) (choiceFound x) → (finished x ≡ NoLayout) ↔ ((c : Choice) → ¬ Solution n (clauses t) c)
+      go [] f = (λ e. f, λ k. refl)
+      go (a ∷ l) f = (λ e. absurd (let z : _≡_ {A = ℕ} 0 1 = cc in omega arith), λ k. absurd (k (a .choice) (f .member)))
 
   -- demand 3: "stops exactly when the tree of document 01 needs more splits than allowed"
-  pub stops-iff : (b : ℕ) → (search n t b .outcome ≡ stopped) ↔ (b < needs n t)
+  pub stops-iff : (b : ℕ) → (search n t b .outcome ≡ Stopped) ↔ (b < needs n t)
   unfolding search
   stops-iff b = stopped-iff b (treeOf n (clauses t))
 
@@ -110,7 +115,7 @@ module _ (n : ℕ) (t : List ℤ) (accepted : Accepted n t) where
   count-smaller b = count-min b (treeOf n (clauses t))
 
   -- demand 3: "A search that finishes does so at every larger allowance too, and all finished searches of one filing are alike"
-  pub larger-allowance : (b b′ : ℕ) → b ≤ b′ → ¬ (search n t b .outcome ≡ stopped) → search n t b′ ≡ search n t b
+  pub larger-allowance : (b b′ : ℕ) → b ≤ b′ → ¬ (search n t b .outcome ≡ Stopped) → search n t b′ ≡ search n t b
   unfolding search
   larger-allowance b b′ = larger-budget b b′ (treeOf n (clauses t))
 
@@ -119,5 +124,5 @@ module _ (n : ℕ) (t : List ℤ) (accepted : Accepted n t) where
   needs-bound = tree-bound (accepted-within n t accepted)
 
   -- "An allowance of N(n) .. always finishes"
-  pub bound-finishes : (b : ℕ) → N n ≤ b → ¬ (search n t b .outcome ≡ stopped)
+  pub bound-finishes : (b : ℕ) → N n ≤ b → ¬ (search n t b .outcome ≡ Stopped)
   bound-finishes b h e = omega (arith, stops-iff b .0 e, needs-bound)

@@ -3,11 +3,11 @@
 use mathlib.Core.Path.{_≡_, refl, ap, sym, _∙_}
 use mathlib.Core.Logic.{_⊎_, inl, inr, _≢_, ⊎-elim}
 use mathlib.Core.Option.{none}
-use mathlib.Core.List.{List, [], _∷_, List·Memᴰ, List·Memᴰ·head, List·Memᴰ·tail, List·Memᴰ·not-nil, List·Memᴰ·cases-cons, List·Memᴰ·eq-of-singleton}
-use Prim.Native.Nat.{ℕ, zero, suc, _+_, _<_, _≤_}
+use mathlib.Core.List.{[], _∷_, List·Memᴰ, List·Memᴰ·cases-cons, List·Memᴰ·eq-of-singleton}
+use Prim.Native.Nat.{ℕ, suc, _≤_}
 use native.Mathlib.Omega.{arith}
 use lib.ListN.{length}
-use Rattle.general.specs.Lists.{Before, before-left, before-right}
+use Rattle.general.specs.Lists.{before-left, before-right}
 use Rattle.literal.specs.declared.Literal.{Literal}
 use Rattle.literal.specs.Literal.{TRUE, FALSE, var, opposite}
 use Rattle.theory.specs.Formula.{Clause, Formula}
@@ -17,7 +17,7 @@ use Rattle.theory.proofs.Literals.{opposite-opposite, var-opposite, opp
 use Rattle.theory.proofs.States.{Based, base-true, base-false, Refines, value-opposite}
 use Rattle.theory.proofs.Clauses.{occurs-here, occurs-other, mem-occurs, stand-ind, mem-standing, standing-refines, occurs-image, occurs-images}
 use Rattle.theory.proofs.Closed.{Alive, Closed, met, resting, alive, quiet-closed, no-common, no-crossed, alive-none-true}
-use Rattle.theory.proofs.Asks.{Ties, up, down, AsksOne, one-true, only-one, stands-twice, opposites, only-two, AsksTwo, common, crossed, Unmeetable, Asks, by-one, by-two, Dies, Rests, standing-no-false}
+use Rattle.theory.proofs.Asks.{AsksOne, one-true, only-one, stands-twice, opposites, only-two, AsksTwo, common, crossed, Asks, by-one, by-two, Dies, Rests, standing-no-false}
 
 -- closed clauses -------------------------------------------------------------------------------------------------
 
@@ -104,11 +104,6 @@ module _ {u : State} (base : Based u) where
   unflipped : (y : Literal) → value u (opposite y) ≡ FALSE → value u y ≡ TRUE
   unflipped y e = sym (opposite-opposite (value u y)) ∙ ap opposite (sym (value-opposite u y) ∙ e)
 
-  -- both sides of a tie
-  ties-equal : {x t : Literal} (y z : Literal) → Ties y z x t → value u z ≡ opposite (value u y) → value u x ≡ value u t
-  ties-equal y z (up l) e = e ∙ sym (value-opposite u y)
-  ties-equal y z (down l) e = sym (opposite-opposite (value u y)) ∙ ap opposite (sym e) ∙ sym (value-opposite u z)
-
   module _ (c : Clause) (k : Closed (standing u c)) where
     image : (x : Literal) → List·Memᴰ x c → value u x ≢ FALSE → List·Memᴰ (value u x) (standing u c)
     image x m h = mem-standing u c x m h
@@ -165,7 +160,7 @@ module _ {u : State} (base : Based u) where
       (λ (d : value u x ≢ FALSE). absurd (omega (arith, occurs-image u (value u x) d x refl c, closed-once k (value u x))))
       (literal-cases (value u x) FALSE))
   forced-one c k (opposites {x = x} y my mo mx o d) = of-false x (beside-opposites c k x y mx my mo d)
-  forced-one c k (only-two y z e oy oz t) = ties-equal y z t (pair y z (rw e at k))
+  forced-one c k (only-two y z e oy oz t) = t .alike u (pair y z (rw e at k))
 
   module _ (g h : Clause) (kg : Closed (standing u g)) (kh : Closed (standing u h)) where
     forced-common : (x y : Literal) → rule7 (standing u g) (standing u h) ≡ none → List·Memᴰ x g → List·Memᴰ x h → List·Memᴰ y g → List·Memᴰ (opposite y) h →
@@ -231,11 +226,7 @@ module _ {u : State} (base : Based u) where
 
     forced-two : rule7 (standing u g) (standing u h) ≡ none → rule8 (standing u g) (standing u h) ≡ none → {x t : Literal} → AsksTwo g h x t → value u x ≡ value u t
     forced-two r7 r8 (common {x = x} y xg xh yg yh o d) = of-false x (forced-common x y r7 xg xh yg yh d)
-    forced-two r7 r8 (crossed y z yg yh zg zh oy oz t) = ties-equal y z t (forced-crossed y z r8 yg yh zg zh (apart t))
-      where
-        apart : {x t : Literal} → Ties y z x t → var y ≢ var z
-        apart (up l) e = omega arith
-        apart (down l) e = omega arith
+    forced-two r7 r8 (crossed y z yg yh zg zh oy oz t) = t .alike u (forced-crossed y z r8 yg yh zg zh (t .apart))
 
 -- at the formula -------------------------------------------------------------------------------------------------
 

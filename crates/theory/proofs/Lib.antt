@@ -19,3 +19,5 @@ pub mod Tables
 pub mod Demands
 pub mod Paths
 pub mod Filings
+pub mod SettledList
+pub mod Heads

@@ -18,7 +18,7 @@ use Rattle.literal.specs.declared.Literal.the-variants.{Pos}
 use Rattle.literal.specs.Literal.{var, opposite}
 use Rattle.theory.specs.Formula.{Clause, Formula, Within}
 use Rattle.theory.specs.Order.{IsLeast}
-use Rattle.theory.specs.State.{State, standing, WellFormed}
+use Rattle.theory.specs.State.{State, standing, Open, WellFormed}
 use Rattle.theory.specs.Rules.{occurs, stands, differ, complementary, other, isNone, restsOn, noneTrue, live}
 use Rattle.theory.specs.Search.{liveVariables, lower, lowest, branchVariable}
 use Rattle.theory.proofs.Literals.{var-opposite}
@@ -100,15 +100,12 @@ none-alive {f} {s} h c m k = go (standing s c) (k .three) (in-live c m k)
     go (x ∷ d) l i = h (var x) (i x (List·Memᴰ·head refl))
 
 -- a variable of a live clause is open
-pub live-positive : {f : Formula} {s : State} {p : ℕ} → InLive f s p → 0 < p
-live-positive h = rw (h .variable) (h .lives .opened (h .literal) (h .standing-in))
-
-module _ {n : ℕ} {f : Formula} {s : State} (w : WellFormed n s) (within : Within n f) {p : ℕ} (h : InLive f s p) where
-  pub live-root : s p ≡ Pos p
-  live-root = rw (h .variable) (fixed-pos s (h .literal) (standing-fixed within w (h .clause) (h .literal) (h .standing-in)))
-
-  pub live-inside : p ≤ n
-  live-inside = rw (h .variable) (standing-inside within w (h .clause) (h .literal) (h .member) (h .standing-in))
+pub live-open : {n : ℕ} {f : Formula} {s : State} → WellFormed n s → Within n f → {p : ℕ} → InLive f s p → Open n s p
+live-open {s = s} w within h = record {
+  positive = rw (h .variable) (h .lives .opened (h .literal) (h .standing-in));
+  inside = rw (h .variable) (standing-inside within w (h .clause) (h .literal) (h .member) (h .standing-in));
+  root = rw (h .variable) (fixed-pos s (h .literal) (standing-fixed within w (h .clause) (h .literal) (h .standing-in)));
+}
 
 live-variable : (f : Formula) (s : State) (c : Clause) → List·Memᴰ c f → Alive (standing s c) → (x : Literal) → List·Memᴰ x (standing s c) →
     List·Memᴰ (var x) (liveVariables (map (standing s) f))

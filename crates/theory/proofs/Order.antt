@@ -1,51 +1,18 @@
--- The order of choices is a partial order, a choice is its values at 1 to n, and one comes before another by what they say where they first differ.
+-- A choice comes before another by what they say where they first differ, and the order of choices is transitive.
 use mathlib.Core.Path.{_≡_, refl, ap, _∙_}
 use mathlib.Core.Bool.{Bool, true, false}
 use mathlib.Core.List.{[], _∷_}
 use Prim.Native.Nat.{ℕ, zero, suc, _≤_, _<_}
 use native.Mathlib.Omega.{arith}
 use lib.ListN.{length, getD}
-use lib.Seq.{ext-getD}
 use Rattle.general.specs.Booleans.{true-not-false}
 use Rattle.general.specs.Lists.{upTo, getD-from}
 use Rattle.theory.specs.Formula.{Choice, assignment}
 use Rattle.theory.specs.Order.{_≼_}
 
-pub ≼-refl : (c : Choice) → c ≼ c
-unfolding _≼_
-≼-refl [] = tt
-≼-refl (false ∷ c) = ≼-refl c
-≼-refl (true ∷ c) = ≼-refl c
-
-pub ≼-trans : (b c d : Choice) → b ≼ c → c ≼ d → b ≼ d
-unfolding _≼_
-≼-trans [] c d h k = tt
-≼-trans (x ∷ b) [] d h k = absurd h
-≼-trans (x ∷ b) (y ∷ c) [] h k = absurd k
-≼-trans (false ∷ b) (false ∷ c) (false ∷ d) h k = ≼-trans b c d h k
-≼-trans (false ∷ b) (false ∷ c) (true ∷ d) h k = tt
-≼-trans (false ∷ b) (true ∷ c) (false ∷ d) h k = absurd k
-≼-trans (false ∷ b) (true ∷ c) (true ∷ d) h k = tt
-≼-trans (true ∷ b) (false ∷ c) (z ∷ d) h k = absurd h
-≼-trans (true ∷ b) (true ∷ c) (false ∷ d) h k = absurd k
-≼-trans (true ∷ b) (true ∷ c) (true ∷ d) h k = ≼-trans b c d h k
-
-pub ≼-antisym : (c d : Choice) → c ≼ d → d ≼ c → c ≡ d
-unfolding _≼_
-≼-antisym [] [] h k = refl
-≼-antisym [] (y ∷ d) h k = absurd k
-≼-antisym (x ∷ c) [] h k = absurd h
-≼-antisym (false ∷ c) (false ∷ d) h k = ap (_∷_ false) (≼-antisym c d h k)
-≼-antisym (false ∷ c) (true ∷ d) h k = absurd k
-≼-antisym (true ∷ c) (false ∷ d) h k = absurd h
-≼-antisym (true ∷ c) (true ∷ d) h k = ap (_∷_ true) (≼-antisym c d h k)
-
 pub assignment-upTo : (g : ℕ → Bool) (n p : ℕ) → 0 < p → p ≤ n → assignment (upTo g n) p ≡ g p
 assignment-upTo g n zero h k = absurd (omega arith)
 assignment-upTo g n (suc i) h k = getD-from g 1 n i false (omega arith) ∙ ap g (omega arith)
-
-pub choice-ext : {n : ℕ} (c d : Choice) → length c ≡ n → length d ≡ n → ((p : ℕ) → 0 < p → p ≤ n → assignment c p ≡ assignment d p) → c ≡ d
-choice-ext c d h k e = ext-getD false c d (omega arith) (λ i l. e (suc i) (omega arith) (omega arith))
 
 -- by indices from 0
 first-difference : (c d : Choice) → length c ≡ length d →
@@ -76,3 +43,16 @@ pub ≼-by : (n : ℕ) (c d : Choice) → length c ≡ n → length d ≡ n →
     before : (i : ℕ) → ((j : ℕ) → j < i → getD c j false ≡ getD d j false) → (q : ℕ) → q < suc i → assignment c q ≡ assignment d q
     before i agree zero l = refl
     before i agree (suc j) l = agree j (omega arith)
+
+pub ≼-trans : (b c d : Choice) → b ≼ c → c ≼ d → b ≼ d
+unfolding _≼_
+≼-trans [] c d h k = tt
+≼-trans (x ∷ b) [] d h k = absurd h
+≼-trans (x ∷ b) (y ∷ c) [] h k = absurd k
+≼-trans (false ∷ b) (false ∷ c) (false ∷ d) h k = ≼-trans b c d h k
+≼-trans (false ∷ b) (false ∷ c) (true ∷ d) h k = tt
+≼-trans (false ∷ b) (true ∷ c) (false ∷ d) h k = absurd k
+≼-trans (false ∷ b) (true ∷ c) (true ∷ d) h k = tt
+≼-trans (true ∷ b) (false ∷ c) (z ∷ d) h k = absurd h
+≼-trans (true ∷ b) (true ∷ c) (false ∷ d) h k = absurd k
+≼-trans (true ∷ b) (true ∷ c) (true ∷ d) h k = ≼-trans b c d h k

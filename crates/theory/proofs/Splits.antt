@@ -1,6 +1,6 @@
 -- A branch on a variable of a live clause: the side that makes its literal true closes at least three variables, so the tree needs at most N splits.
 use mathlib.Core.Path.{_≡_, refl, ap, sym, _∙_}
-use mathlib.Core.Logic.{_⊎_, inl, inr, _≢_, ⊎-elim}
+use mathlib.Core.Logic.{_≢_, ⊎-elim}
 use mathlib.Core.Option.{Option, none, some}
 use mathlib.Core.List.{List, [], _∷_, List·Memᴰ, List·Memᴰ·head, List·Memᴰ·tail}
 use Prim.Native.Nat.{ℕ, zero, suc, _+_, _-_, _<_, _≤_}
@@ -17,13 +17,14 @@ use Rattle.theory.specs.Propagation.{step, Settled, dead, rest, settle}
 use Rattle.theory.specs.Bound.{N}
 use Rattle.theory.specs.Search.{branchVariable, splitOn, decided, decide, treeOf}
 use Rattle.theory.proofs.Literals.{literal-cases, relation, of-variable}
-use Rattle.theory.proofs.States.{Based, well-based, base-true, base-false, Fixed, fixed-pos, Valid, assign-well, value-assign, value-opposite, replace-same, replace-opposite-same, replace-other, Refines, refines-value, refines-trans, refines-assign, refines-root, opens-le, opens-bound, opens-assign}
+use Rattle.theory.proofs.States.{Based, well-based, base-true, base-false, Side, side, Valid, assign-well, value-assign, value-opposite, replace-same, replace-opposite-same, replace-other, Refines, refines-value, refines-trans, refines-assign, refines-root, opens-le, opens-bound, opens-assign}
 use Rattle.theory.proofs.Clauses.{occurs-here, occurs-tail, mem-occurs, standing-refines}
 use Rattle.theory.proofs.Closed.{Alive, Closed, quiet-closed}
 use Rattle.theory.proofs.Asks.{standing-no-false, standing-fixed, standing-inside, step-rests}
 use Rattle.theory.proofs.Forced.{beside-true}
 use Rattle.theory.proofs.Propagation.{initial-well, Ended, Ends, propagate-ends}
-use Rattle.theory.proofs.Live.{InLive, live-positive, live-root, live-inside, branch-least}
+use Rattle.theory.proofs.Live.{InLive, live-open, branch-least}
+use Rattle.theory.proofs.Bound.{N-branch}
 use Rattle.theory.proofs.Tree.{Narrower, Narrow, splits-le}
 
 -- where no rule fits every clause is closed
@@ -89,22 +90,16 @@ module _ {n : ℕ} {f : Formula} (within : Within n f) where
 
   module _ (u : State) (w : WellFormed n u) where
     -- a side of the branch on p settles to a state with at least one open variable fewer
-    module _ (p : ℕ) (h : InLive f u p) (t : Literal) (z : var t ≡ 0) (ft : Fixed u t) where
-      side-valid : Valid n u (Pos p) t
-      side-valid = record { fixed-x = live-root w within h; fixed-t = ft; lower = omega (arith, live-positive h); inside = live-inside w within h }
-
-      pub side-well : WellFormed n (assign (Pos p) t u)
-      side-well = assign-well w side-valid
-
-      side-closes : opens (assign (Pos p) t u) n + 1 ≡ opens u n
-      side-closes = opens-assign w side-valid n (live-positive h) (live-inside w within h)
+    module _ (p : ℕ) (h : InLive f u p) (t : Literal) (z : var t ≡ 0) where
+      one : Side n u (assign (Pos p) t u)
+      one = side w (live-open w within h) t z
 
       side-fewer : Leaves (assign (Pos p) t u) (opens u n - 1)
-      side-fewer = go (settle n f (assign (Pos p) t u)) (settle-ends (assign (Pos p) t u) side-well)
+      side-fewer = go (settle n f (assign (Pos p) t u)) (settle-ends (assign (Pos p) t u) (one .well))
         where
           go : (o : Settled) → Ends n f (assign (Pos p) t u) o → AtMost (opens u n - 1) o
           go dead e = tt
-          go (rest v) e = omega (arith, e .fewer, side-closes)
+          go (rest v) e = omega (arith, e .fewer, one .closes)
 
     -- three literals of different open variables, closed one after the other
     record Closes (x y z : Literal) : Type 0 where
@@ -171,9 +166,9 @@ module _ {n : ℕ} {f : Formula} (within : Within n f) where
       shut v (Neg r) k o e i q g z = omega (arith, ap var (sym (ap opposite (rw z at g)) ∙ e))
 
       -- the side that makes the live clause's literal true
-      module _ (t : Literal) (z : var t ≡ 0) (ft : Fixed u t) (true-side : value (assign (Pos p) t u) (h .literal) ≡ TRUE) where
+      module _ (t : Literal) (z : var t ≡ 0) (true-side : value (assign (Pos p) t u) (h .literal) ≡ TRUE) where
         side-three-fewer : Leaves (assign (Pos p) t u) (opens u n - 3)
-        side-three-fewer = go (settle n f (assign (Pos p) t u)) (settle-ends (assign (Pos p) t u) (side-well p h t z ft))
+        side-three-fewer = go (settle n f (assign (Pos p) t u)) (settle-ends (assign (Pos p) t u) (one p h t z .well))
           where
             three : Closes (h .literal) (b .second) (b .third)
             three = live-closes
@@ -197,62 +192,57 @@ module _ {n : ℕ} {f : Formula} (within : Within n f) where
                       (shut v (b .third) FALSE (h .lives .opened (b .third) (b .third-in)) fz refl q g)),
                 )
 
-      narrow-at : (m : ℕ) → opens u n ≤ m → Narrower (WellFormed n) Leaves m (assign (Pos p) FALSE u) (assign (Pos p) TRUE u)
+      narrow-at : (m : ℕ) → opens u n ≤ m → Narrower N (WellFormed n) Leaves m (assign (Pos p) FALSE u) (assign (Pos p) TRUE u)
       narrow-at m l = go (h .literal) refl
         where
-          fixed-false : Fixed u FALSE
-          fixed-false = base-false (well-based w)
-
-          fixed-true : Fixed u TRUE
-          fixed-true = base-true (well-based w)
-
-          three : opens (live-closes .state) n + 3 ≡ opens u n
-          three = live-closes .fewer
+          -- one variable fewer on one side, three on the other
+          pays : 1 + N (opens u n - 1) + N (opens u n - 3) ≤ N m
+          pays = N-branch m (opens u n - 1) (opens u n - 3) (omega (arith, live-closes .fewer)) (omega (arith, live-closes .fewer))
 
           -- what the step makes of its own variable
           stepped : (t : Literal) → value (assign (Pos p) t u) (Pos p) ≡ t
-          stepped t = ap (replace (Pos p) t) (live-root w within h) ∙ replace-same (Pos p) t
+          stepped t = ap (replace (Pos p) t) (live-open w within h .root) ∙ replace-same (Pos p) t
 
-          go : (x : Literal) → h .literal ≡ x → Narrower (WellFormed n) Leaves m (assign (Pos p) FALSE u) (assign (Pos p) TRUE u)
+          go : (x : Literal) → h .literal ≡ x → Narrower N (WellFormed n) Leaves m (assign (Pos p) FALSE u) (assign (Pos p) TRUE u)
           go (Pos q) e =
               let is : h .literal ≡ Pos p = e ∙ ap Pos (sym (h .variable ∙ ap var e)) in
               record {
-                good-left = side-well p h FALSE refl fixed-false;
-                good-right = side-well p h TRUE refl fixed-true;
+                good-left = one p h FALSE refl .well;
+                good-right = one p h TRUE refl .well;
                 size-left = opens u n - 1;
                 size-right = opens u n - 3;
-                fits-left = side-fewer p h FALSE refl fixed-false;
-                fits-right = side-three-fewer TRUE refl fixed-true (rw is (stepped TRUE));
-                fewer = inl (omega (arith, three), omega (arith, three));
+                fits-left = side-fewer p h FALSE refl;
+                fits-right = side-three-fewer TRUE refl (rw is (stepped TRUE));
+                pays = pays;
               }
           go (Neg q) e =
               let is : h .literal ≡ Neg p = e ∙ ap Neg (sym (h .variable ∙ ap var e)) in
               record {
-                good-left = side-well p h FALSE refl fixed-false;
-                good-right = side-well p h TRUE refl fixed-true;
+                good-left = one p h FALSE refl .well;
+                good-right = one p h TRUE refl .well;
                 size-left = opens u n - 3;
                 size-right = opens u n - 1;
-                fits-left = side-three-fewer FALSE refl fixed-false (rw is (ap opposite (stepped FALSE)));
-                fits-right = side-fewer p h TRUE refl fixed-true;
-                fewer = inr (omega (arith, three), omega (arith, three));
+                fits-left = side-three-fewer FALSE refl (rw is (ap opposite (stepped FALSE)));
+                fits-right = side-fewer p h TRUE refl;
+                pays = omega (arith, pays);
               }
 
-  narrow : (s : State) (m : ℕ) → WellFormed n s → Leaves s m → Narrow (WellFormed n) Leaves m (decide n f s)
+  narrow : (s : State) (m : ℕ) → WellFormed n s → Leaves s m → Narrow N (WellFormed n) Leaves m (decide n f s)
   unfolding decide
   narrow s m w h = go (settle n f s) (settle-ends s w) h
     where
-      split : (u : State) → WellFormed n u → opens u n ≤ m → (o : Option ℕ) → IsLeast _≤_ (InLive f u) o → Narrow (WellFormed n) Leaves m (splitOn n u o)
+      split : (u : State) → WellFormed n u → opens u n ≤ m → (o : Option ℕ) → IsLeast _≤_ (InLive f u) o → Narrow N (WellFormed n) Leaves m (splitOn n u o)
       split u wu l none k = tt
       split u wu l (some p) k = narrow-at u wu p (k .member) m l
 
-      go : (o : Settled) → Ends n f s o → AtMost m o → Narrow (WellFormed n) Leaves m (decided n f o)
+      go : (o : Settled) → Ends n f s o → AtMost m o → Narrow N (WellFormed n) Leaves m (decided n f o)
       go dead e l = tt
       go (rest u) e l = split u (e .well) l (branchVariable f u) (branch-least f u (rests-closed f u (e .rests)))
 
   -- "For n placements the tree never needs more than the bound N(n)"
   pub tree-bound : treeOf n f .splits ≤ N n
   unfolding treeOf
-  tree-bound = splits-le (WellFormed n) Leaves (decide n f) narrow (suc n) n initial (initial-well n) (go (settle n f initial) (settle-ends initial (initial-well n)))
+  tree-bound = splits-le N (WellFormed n) Leaves (decide n f) narrow (suc n) 1 n initial (initial-well n) (go (settle n f initial) (settle-ends initial (initial-well n)))
     where
       go : (o : Settled) → Ends n f initial o → AtMost n o
       go dead e = tt

@@ -9,7 +9,7 @@ use Rattle.general.specs.Booleans.{bit}
 use Rattle.literal.specs.declared.Literal.{Literal}
 use Rattle.literal.specs.declared.Literal.the-variants.{Pos, Neg}
 use Rattle.literal.specs.Literal.{TRUE, FALSE, var, opposite, same}
-use Rattle.theory.specs.State.{State, initial, value, replace, assign, opens, WellFormed}
+use Rattle.theory.specs.State.{State, initial, value, replace, assign, opens, Open, WellFormed}
 use Rattle.theory.proofs.Literals.{opposite-opposite, var-opposite, opposite-ne, same-true, same-refl, same-ne, literal-cases, of-variable, relation}
 
 -- replacing ------------------------------------------------------------------------------------------------------
@@ -225,3 +225,19 @@ module _ {n : ℕ} {s : State} {x t : Literal} (w : WellFormed n s) (v : Valid n
         rw (gone, was) (omega (arith, opens-above m (omega arith)))
     | no e ↦ rw (assign-other (suc m) e) (omega (arith, opens-assign m h (omega arith)))
   ]
+
+-- a side of a split, a state with one open variable fewer
+pub record Side (n : ℕ) (s u : State) : Type 0 where
+  pub well : WellFormed n u
+  pub closes : opens u n + 1 ≡ opens s n
+
+module _ {n : ℕ} {s : State} (w : WellFormed n s) where
+  constant-fixed : (t : Literal) → var t ≡ 0 → Fixed s t
+  constant-fixed (Pos p) z = rw z (base-true (well-based w))
+  constant-fixed (Neg p) z = rw z (base-false (well-based w))
+
+  -- an open variable becomes a constant
+  pub side : {p : ℕ} → Open n s p → (t : Literal) → var t ≡ 0 → Side n s (assign (Pos p) t s)
+  side {p} o t z =
+      let v : Valid n s (Pos p) t = record { fixed-x = o .root; fixed-t = constant-fixed t z; lower = omega (arith, o .positive); inside = o .inside } in
+      record { well = assign-well w v; closes = opens-assign w v n (o .positive) (o .inside) }

@@ -1,61 +1,136 @@
--- An accepted table has at most 256 placements, and all its literals are of placements from 1 to n.
-use mathlib.Core.Path.{_≡_, refl, ap}
-use mathlib.Core.Bool.{Bool, true, false, not, cond}
-use mathlib.Core.Logic.{_⊎_, ⊎-elim}
-use mathlib.Core.List.{List, [], _∷_, List·Memᴰ, List·Memᴰ·head, List·Memᴰ·tail, List·Memᴰ·not-nil, List·Memᴰ·cases-cons}
+-- A table is accepted exactly when it is within the limits, and then all its literals are of placements from 1 to n.
+use mathlib.Core.Path.{_≡_, refl, ap, sym, _∙_}
+use mathlib.Core.Bool.{Bool, true, false, not, _||_, cond}
+use mathlib.Core.Logic.{_⊎_, ⊎-elim, _↔_, _≢_}
+use mathlib.Core.List.{List, [], _∷_, _++_, map, List·Memᴰ, List·Memᴰ·head, List·Memᴰ·tail, List·Memᴰ·not-nil, List·Memᴰ·cases-cons}
 use Prim.Native.Nat.{ℕ, zero, suc, _+_, _<_, _≤_}
 use native.Mathlib.Omega.{arith}
-use lib.Dec.{ltb}
+use lib.Dec.{ltb, eqb, eqb·suc-zero}
 use lib.IntN.{ℤ, negsuc, natAbs, pos as posℤ}
-use borrow.Author.Tests.{ltb-false}
+use lib.ListN.{length}
+use borrow.Author.Tests.{ltb-false, le-ltb, eqb-true, eqb-false, ne-eqb, not-false}
+use Rattle.general.specs.Booleans.{true-not-false, bit-not}
 use Rattle.literal.specs.declared.Literal.{Literal}
 use Rattle.literal.specs.declared.Literal.the-variants.{Pos, Neg}
-use Rattle.literal.specs.Literal.{var, maxVariables, maxClauses, maxLiterals}
+use Rattle.literal.specs.Literal.{var, literalOf, maxVariables, maxClauses, maxLiterals}
 use Rattle.receipt.specs.declared.Checked.{Checked}
 use Rattle.receipt.specs.declared.Refusal.{Refusal}
 use Rattle.receipt.specs.declared.Checked.the-variants.{Passed, Refused}
 use Rattle.theory.specs.Formula.{Clause, Formula, clauses, push, Within}
-use Rattle.theory.specs.Table.{zeros, nonzeros, endsOpen, unknownFrom, check, Accepted}
+use Rattle.theory.specs.Table.{closes, zeros, nonzeros, endsOpen, unknownFrom, check, Accepted, WithinLimits}
 
 -- a check that passes passed its first test, and the rest
-past : (b : Bool) (r : Refusal) (s : Checked) → cond b (Refused r) s ≡ Passed → (b ≡ false) × (s ≡ Passed)
+pub past : (b : Bool) (r : Refusal) (s : Checked) → cond b (Refused r) s ≡ Passed → (b ≡ false) × (s ≡ Passed)
 past true r s e = absurd (let z : _≡_ {A = ℕ} 0 1 = cc in omega arith)
 past false r s e = (refl, e)
 
-pub record Sizes (n : ℕ) (t : List ℤ) : Type 0 where
-  pub variables : n ≤ maxVariables
-  pub closed : zeros t ≤ maxClauses
-  pub literals : nonzeros t ≤ maxLiterals
-  pub closes : endsOpen false t ≡ false
-  pub known : unknownFrom 0 n t ≡ Passed
+-- counting ------------------------------------------------------------------------------------------------------------
 
-pub accepted-sizes : (n : ℕ) (t : List ℤ) → Accepted n t → Sizes n t
-unfolding check
-accepted-sizes n t e =
-    let a = past (ltb maxVariables n) _ _ e in
-    let b = past (ltb maxClauses (zeros t)) _ _ (a .1) in
-    let c = past (ltb maxLiterals (nonzeros t)) _ _ (b .1) in
-    let d = past (endsOpen false t) _ _ (c .1) in
-    record {
-      variables = ltb-false maxVariables n (a .0);
-      closed = ltb-false maxClauses (zeros t) (b .0);
-      literals = ltb-false maxLiterals (nonzeros t) (c .0);
-      closes = d .0;
-      known = d .1;
-    }
+pub zeros-append : (t u : List ℤ) → zeros (t ++ u) ≡ zeros t + zeros u
+unfolding zeros
+zeros-append [] u = omega arith
+zeros-append (e ∷ t) u = omega (arith, zeros-append t u)
 
--- no entry's size is above n
-pub unknown-bound : (i n : ℕ) (t : List ℤ) → unknownFrom i n t ≡ Passed → (e : ℤ) → List·Memᴰ e t → natAbs e ≤ n
+pub nonzeros-append : (t u : List ℤ) → nonzeros (t ++ u) ≡ nonzeros t + nonzeros u
+unfolding nonzeros
+nonzeros-append [] u = omega arith
+nonzeros-append (e ∷ t) u = omega (arith, nonzeros-append t u)
+
+-- each element closes a group or is an entry
+pub length-elements : (t : List ℤ) → length t ≡ zeros t + nonzeros t
+unfolding zeros nonzeros
+length-elements [] = refl
+length-elements (e ∷ t) = omega (arith, length-elements t, bit-not (closes e))
+
+-- the last element ------------------------------------------------------------------------------------------------
+
+closing : (e : ℤ) → closes e ≡ true → e ≡ posℤ 0
+closing (posℤ k) h = ap posℤ (eqb-true k 0 h)
+closing (negsuc k) h = absurd (true-not-false h (eqb·suc-zero k))
+
+pub endsOpen-append : (b : Bool) (t u : List ℤ) → endsOpen b (t ++ u) ≡ endsOpen (endsOpen b t) u
+unfolding endsOpen
+endsOpen-append b [] u = refl
+endsOpen-append b (e ∷ t) u = endsOpen-append (not (closes e)) t u
+
+pub closed-ends : (t : List ℤ) → endsOpen false t ≡ false → (b : List ℤ) (e : ℤ) → t ≡ b ++ (e ∷ []) → e ≡ posℤ 0
+unfolding endsOpen
+closed-ends t h b e q = closing e (not-false (closes e) (sym (endsOpen-append false b (e ∷ [])) ∙ rw q at h))
+
+ends-closed : (c : Bool) (t : List ℤ) → (t ≡ [] → c ≡ false) → ((b : List ℤ) (e : ℤ) → t ≡ b ++ (e ∷ []) → e ≡ posℤ 0) → endsOpen c t ≡ false
+unfolding endsOpen
+ends-closed c [] h k = h refl
+ends-closed c (x ∷ t) h k =
+    ends-closed (not (closes x)) t (λ q. let z : x ≡ posℤ 0 = k [] x (ap (_∷_ x) q) in rw z) (λ b e q. k (x ∷ b) e (ap (_∷_ x) q))
+
+-- no entry's size is above n ------------------------------------------------------------------------------------------
+
+unknown-bound : (i n : ℕ) (t : List ℤ) → unknownFrom i n t ≡ Passed → (e : ℤ) → List·Memᴰ e t → natAbs e ≤ n
 unfolding unknownFrom
 unknown-bound i n [] h e m = absurd (List·Memᴰ·not-nil m)
 unknown-bound i n (x ∷ t) h e m =
     let a = past (ltb n (natAbs x)) _ _ h in
     ⊎-elim (λ (q : e ≡ x). rw q (ltb-false n (natAbs x) (a .0))) (unknown-bound (suc i) n t (a .1) e) (List·Memᴰ·cases-cons m)
 
-abbrev InRange : ℕ → Formula → Type 0
+bound-known : (i n : ℕ) (t : List ℤ) → ((e : ℤ) → List·Memᴰ e t → natAbs e ≤ n) → unknownFrom i n t ≡ Passed
+unfolding unknownFrom
+bound-known i n [] h = refl
+bound-known i n (e ∷ t) h = rw (le-ltb n (natAbs e) (h e (List·Memᴰ·head refl))) (bound-known (suc i) n t (λ x m. h x (List·Memᴰ·tail m)))
+
+-- the test of an operand of a strip and of an added list: a variable from 1 to n
+pub known-variable : (n p : ℕ) → (eqb p 0 || ltb n p) ≡ false → (0 < p) × (p ≤ n)
+known-variable n p = go (eqb p 0) refl (ltb n p) refl
+  where
+    go : (a : Bool) → eqb p 0 ≡ a → (b : Bool) → ltb n p ≡ b → (a || b) ≡ false → (0 < p) × (p ≤ n)
+    go true ea b eb e = absurd (true-not-false refl e)
+    go false ea true eb e = absurd (true-not-false refl e)
+    go false ea false eb e = let h : p ≢ 0 = eqb-false p 0 ea in (omega arith, ltb-false n p eb)
+
+-- the check and the limits --------------------------------------------------------------------------------------------
+
+module _ (n : ℕ) (t : List ℤ) where
+  passes : Accepted n t → (endsOpen false t ≡ false) × WithinLimits n t
+  unfolding check
+  passes e =
+      let a = past (ltb maxVariables n) _ _ e in
+      let b = past (ltb maxClauses (zeros t)) _ _ (a .1) in
+      let c = past (ltb maxLiterals (nonzeros t)) _ _ (b .1) in
+      let d = past (endsOpen false t) _ _ (c .1) in (
+        d .0,
+        record {
+          variables = ltb-false maxVariables n (a .0);
+          clauses = ltb-false maxClauses (zeros t) (b .0);
+          literals = ltb-false maxLiterals (nonzeros t) (c .0);
+          ends = closed-ends t (d .0);
+          known = unknown-bound 0 n t (d .1);
+        },
+      )
+
+  pub accepted-closed : Accepted n t → endsOpen false t ≡ false
+  accepted-closed e = passes e .0
+
+  pub accepted-sizes : Accepted n t → WithinLimits n t
+  accepted-sizes e = passes e .1
+
+  -- demand 1: "Every table .. within the limits of document 01 .. is accepted"; "Every other input is refused"
+  pub accepted-exactly : Accepted n t ↔ WithinLimits n t
+  unfolding check
+  accepted-exactly = (
+    accepted-sizes,
+    λ w. rw (
+      le-ltb maxVariables n (w .variables),
+      le-ltb maxClauses (zeros t) (w .clauses),
+      le-ltb maxLiterals (nonzeros t) (w .literals),
+      ends-closed false t (λ q. refl) (w .ends),
+    ) (bound-known 0 n t (w .known)),
+  )
+
+-- literals ---------------------------------------------------------------------------------------------------------
+
+abbrev pub InRange : ℕ → Formula → Type 0
 InRange n f = (c : Clause) (l : Literal) → List·Memᴰ c f → List·Memᴰ l c → (0 < var l) × (var l ≤ n)
 
-push-range : (n : ℕ) (k : Literal) → 0 < var k → var k ≤ n → (f : Formula) → InRange n f → InRange n (push k f)
+pub push-range : (n : ℕ) (k : Literal) → 0 < var k → var k ≤ n → (f : Formula) → InRange n f → InRange n (push k f)
 push-range n k o b [] h c l mc ml = absurd (List·Memᴰ·not-nil mc)
 push-range n k o b (d ∷ f) h c l mc ml = ⊎-elim
     (λ (q : c ≡ k ∷ d). ⊎-elim (λ (e : l ≡ k). rw e (o, b)) (h d l (List·Memᴰ·head refl)) (List·Memᴰ·cases-cons (rw q at ml)))
@@ -78,4 +153,36 @@ pub accepted-within : (n : ℕ) (t : List ℤ) → Accepted n t → Within n (cl
 accepted-within n t e = record { low = λ c l mc ml. range c l mc ml .0; high = λ c l mc ml. range c l mc ml .1 }
   where
     range : InRange n (clauses t)
-    range = clauses-range n t (unknown-bound 0 n t (accepted-sizes n t e .known))
+    range = clauses-range n t (accepted-sizes n t e .known)
+
+-- a table after a table ----------------------------------------------------------------------------------------------
+
+-- after an entry that is closed there is a group
+pub first-clause : (t : List ℤ) → endsOpen true t ≡ false → (c : Clause) × (f : Formula) × (clauses t ≡ c ∷ f)
+unfolding endsOpen clauses
+first-clause [] h = absurd (true-not-false refl h)
+first-clause (posℤ zero ∷ t) h = ([], clauses t, refl)
+first-clause (posℤ (suc p) ∷ t) h = let w = first-clause t (rw (eqb·suc-zero p) at h) in (Pos (suc p) ∷ w .0, w .1, ap (push (Pos (suc p))) (w .2))
+first-clause (negsuc p ∷ t) h = let w = first-clause t (rw (eqb·suc-zero p) at h) in (Neg (suc p) ∷ w .0, w .1, ap (push (Neg (suc p))) (w .2))
+
+pub clauses-append : (b : Bool) (t u : List ℤ) → endsOpen b t ≡ false → clauses (t ++ u) ≡ clauses t ++ clauses u
+unfolding endsOpen clauses
+clauses-append b [] u h = refl
+clauses-append b (posℤ zero ∷ t) u h = ap (_∷_ []) (clauses-append false t u h)
+clauses-append b (posℤ (suc p) ∷ t) u h = let k = rw (eqb·suc-zero p) at h in rw (clauses-append true t u k, first-clause t k .2)
+clauses-append b (negsuc p ∷ t) u h = let k = rw (eqb·suc-zero p) at h in rw (clauses-append true t u k, first-clause t k .2)
+
+-- entries and a closing 0
+pub clauses-one : (g : List ℤ) → ((e : ℤ) → List·Memᴰ e g → 0 < natAbs e) → clauses (g ++ (posℤ 0 ∷ [])) ≡ map literalOf g ∷ []
+unfolding clauses
+clauses-one [] h = refl
+clauses-one (posℤ zero ∷ g) h = absurd (omega (arith, h (posℤ 0) (List·Memᴰ·head refl)))
+clauses-one (posℤ (suc p) ∷ g) h = rw (clauses-one g (λ e m. h e (List·Memᴰ·tail m)))
+clauses-one (negsuc p ∷ g) h = rw (clauses-one g (λ e m. h e (List·Memᴰ·tail m)))
+
+pub no-zeros : (g : List ℤ) → ((e : ℤ) → List·Memᴰ e g → 0 < natAbs e) → zeros g ≡ 0
+unfolding zeros
+no-zeros [] h = refl
+no-zeros (e ∷ g) h =
+    let z : natAbs e ≢ 0 = λ q. omega (arith, h e (List·Memᴰ·head refl)) in
+    rw (ne-eqb (natAbs e) 0 z, no-zeros g (λ x m. h x (List·Memᴰ·tail m)))

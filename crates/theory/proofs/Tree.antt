@@ -1,28 +1,28 @@
--- The split tree over any kind of state finds the least solution, whatever the fuel that is enough, and needs at most N splits.
-use mathlib.Core.Path.{_≡_, refl}
+-- The split tree over any kind of state finds the least solution first, whatever the fuel that is enough, and needs at most B splits for any B that pays for a branch.
+use mathlib.Core.Path.{_≡_, refl, ap}
 use mathlib.Core.Logic.{_⊎_, ⊎-elim, _↔_}
-use mathlib.Core.Option.{Option, none, some, Option·map}
-use Prim.Native.Nat.{ℕ, zero, suc, _+_, _≤_, _<_}
+use mathlib.Core.List.{List, [], _∷_, _++_}
+use mathlib.Core.Option.{Option, none, some}
+use Prim.Native.Nat.{ℕ, zero, suc, _+_, _-_, _≤_, _<_}
 use native.Mathlib.Omega.{arith}
-use Rattle.literal.specs.declared.Literal.the-variants.{Pos}
-use Rattle.theory.specs.Bound.{N}
+use lib.ListN.{length}
+use Rattle.literal.specs.declared.Literal.the-variants.{Pos, Neg}
 use Rattle.theory.specs.Order.{Least, IsLeast}
-use Rattle.theory.specs.Tree.{Decision, dead, done, branch, Found, Run, through, second, visit, tree}
-use Rattle.theory.proofs.Bound.{N-branch}
+use Rattle.theory.specs.Tree.{Decision, dead, done, branch, Found, Run, through, split, tried, visit, tree}
 
-abbrev pub choiceFound : {A : Type 0} → Option (Found A) → Option A
-choiceFound = Option·map (λ a. a .choice)
+-- the first choice that is found
+abbrev pub choiceFound : {A : Type 0} → List (Found A) → Option A
+choiceFound [] = none
+choiceFound (a ∷ l) = some (a .choice)
 
--- two walks that agree on the second side
-second-agree : {S A : Type 0} (walk walk′ : S → Run A) (p : ℕ) (r : S) (k : ℕ) (o : Option (Found A)) →
-    walk r ≡ walk′ r → second walk p r k o ≡ second walk′ p r k o
-second-agree walk walk′ p r k none e = rw e
-second-agree walk walk′ p r k (some a) e = refl
+module _ {S A : Type 0} (walk : ℕ → S → Run A) (s : S) where
+  tried-agree : (walk′ : ℕ → S → Run A) → ((k : ℕ) → walk k s ≡ walk′ k s) → (k : ℕ) → tried walk k s ≡ tried walk′ k s
+  tried-agree walk′ e zero = refl
+  tried-agree walk′ e (suc k) = e (suc k)
 
--- a first side with a solution only lowers the number of splits
-second-splits : {S A : Type 0} (walk : S → Run A) (p : ℕ) (r : S) (k : ℕ) (o : Option (Found A)) → second walk p r k o .splits ≤ 1 + k + walk r .splits
-second-splits walk p r k none = omega arith
-second-splits walk p r k (some a) = omega arith
+  tried-splits : (m : ℕ) → ((k : ℕ) → walk k s .splits ≤ m) → (k : ℕ) → tried walk k s .splits ≤ m
+  tried-splits m h zero = omega arith
+  tried-splits m h (suc k) = h (suc k)
 
 -- What a decision means for the solutions of its state, and so for what the tree finds. left s: the open variables of s.
 module _ {S A : Type 0} (Good : S → Type 0) (left : S → ℕ) (Sol : S → A → Type 0) (Le : A → A → Type 0) where
@@ -57,55 +57,53 @@ module _ {S A : Type 0} (Good : S → Type 0) (left : S → ℕ) (Sol : S → A 
     before = w .before;
   }
 
-  second-least : (walk : S → Run A) (p : ℕ) {s l r : S} (k : ℕ) (o : Option (Found A)) → Branches s l r →
-      IsLeast Le (Sol l) (choiceFound o) → IsLeast Le (Sol r) (choiceFound (walk r .found)) → IsLeast Le (Sol s) (choiceFound (second walk p r k o .found))
-  second-least walk p {s} {l} {r} k none w none-left least-right = go (walk r .found) least-right
-    where
-      go : (o : Option (Found A)) → IsLeast Le (Sol r) (choiceFound o) → IsLeast Le (Sol s) (choiceFound (Option·map (through (Pos p)) o))
-      go none f = λ a h. ⊎-elim (none-left a) (f a) (w .into a h)
-      go (some b) f = record {
-        member = w .from-right (b .choice) (f .member);
-        least = λ a h. ⊎-elim (λ x. absurd (none-left a x)) (f .least a) (w .into a h);
-      }
-  second-least walk p k (some b) w f least-right = record {
+  -- of what both sides find, the second counts only where the first finds nothing
+  sides-least : (p : ℕ) {s l r : S} → Branches s l r → (x y : List (Found A)) → IsLeast Le (Sol l) (choiceFound x) →
+      (x ≡ [] → IsLeast Le (Sol r) (choiceFound y)) → IsLeast Le (Sol s) (choiceFound (through (Neg p) x ++ through (Pos p) y))
+  sides-least p w [] [] f g = λ a h. ⊎-elim (f a) (g refl a) (w .into a h)
+  sides-least p w [] (b ∷ y) f g = record {
+    member = w .from-right (b .choice) (g refl .member);
+    least = λ a h. ⊎-elim (λ x. absurd (f a x)) (g refl .least a) (w .into a h);
+  }
+  sides-least p w (b ∷ x) y f g = record {
     member = w .from-left (b .choice) (f .member);
     least = λ a h. ⊎-elim (f .least a) (w .before (b .choice) a f) (w .into a h);
   }
 
   module _ (decide : S → Decision S A) (ok : (s : S) → Good s → Means s (decide s)) where
-    pub tree-first : (k : ℕ) (s : S) → Good s → left s < k → IsLeast Le (Sol s) (choiceFound (tree decide k s .found))
+    pub tree-first : (f k : ℕ) (s : S) → Good s → left s < f → IsLeast Le (Sol s) (choiceFound (tree decide f (suc k) s .found))
     unfolding tree
-    tree-first zero s g p = absurd (omega arith)
-    tree-first (suc k) s g p = go (tree-first k) (decide s) (ok s g)
+    tree-first zero k s g p = absurd (omega arith)
+    tree-first (suc f) k s g p = go (tree-first f k) (decide s) (ok s g)
       where
-        go : ((u : S) → Good u → left u < k → IsLeast Le (Sol u) (choiceFound (tree decide k u .found))) →
-            (d : Decision S A) → Means s d → IsLeast Le (Sol s) (choiceFound (visit (tree decide k) d .found))
+        go : ((u : S) → Good u → left u < f → IsLeast Le (Sol u) (choiceFound (tree decide f (suc k) u .found))) →
+            (d : Decision S A) → Means s d → IsLeast Le (Sol s) (choiceFound (visit (tree decide f) (suc k) d .found))
         go ih dead w = w
         go ih (done a) w = w
         go ih (branch q l r) w =
-            second-least (tree decide k) q _ (tree decide k l .found) w
-            (ih l (w .good-left) (omega arith))
-            (ih r (w .good-right) (omega arith))
+            let all : suc k - 0 ≡ suc k = omega arith in
+            sides-least q w (tree decide f (suc k) l .found) (tried (tree decide f) (suc k - length (tree decide f (suc k) l .found)) r .found)
+            (ih l (w .good-left) (omega arith)) (λ e. rw (e, all) (ih r (w .good-right) (omega arith)))
 
     -- all fuel that is enough gives the same run
-    pub tree-fuel : (k j : ℕ) (s : S) → Good s → left s < k → left s < j → tree decide k s ≡ tree decide j s
+    pub tree-fuel : (f g k : ℕ) (s : S) → Good s → left s < f → left s < g → tree decide f k s ≡ tree decide g k s
     unfolding tree
-    tree-fuel zero j s g p q = absurd (omega arith)
-    tree-fuel (suc k) zero s g p q = absurd (omega arith)
-    tree-fuel (suc k) (suc j) s g p q = go (tree-fuel k j) (decide s) (ok s g)
+    tree-fuel zero g k s h p q = absurd (omega arith)
+    tree-fuel (suc f) zero k s h p q = absurd (omega arith)
+    tree-fuel (suc f) (suc g) k s h p q = go (tree-fuel f g) (decide s) (ok s h)
       where
-        go : ((u : S) → Good u → left u < k → left u < j → tree decide k u ≡ tree decide j u) →
-            (d : Decision S A) → Means s d → visit (tree decide k) d ≡ visit (tree decide j) d
+        go : ((j : ℕ) (u : S) → Good u → left u < f → left u < g → tree decide f j u ≡ tree decide g j u) →
+            (d : Decision S A) → Means s d → visit (tree decide f) k d ≡ visit (tree decide g) k d
         go ih dead w = refl
         go ih (done a) w = refl
         go ih (branch x l r) w =
-            rw (ih l (w .good-left) (omega arith) (omega arith))
-            (second-agree (tree decide k) (tree decide j) x r (tree decide j l .splits) (tree decide j l .found)
-            (ih r (w .good-right) (omega arith) (omega arith)))
+            rw (ih k l (w .good-left) (omega arith) (omega arith))
+            (ap (split x (tree decide g k l))
+            (tried-agree (tree decide f) r (tree decide g) (λ j. ih j r (w .good-right) (omega arith) (omega arith)) (k - length (tree decide g k l .found))))
 
--- How many splits a run makes. Fits s m: what settling leaves of s is dead, or has at most m open variables.
-module _ {S : Type 0} (Good : S → Type 0) (Fits : S → ℕ → Type 0) where
-  -- the sides of a branch at m open variables: one has at least one fewer, the other at least three fewer
+-- How many splits a run makes, by a bound B on the open variables. Fits s m: what settling leaves of s is dead, or has at most m open variables.
+module _ {S : Type 0} (B : ℕ → ℕ) (Good : S → Type 0) (Fits : S → ℕ → Type 0) where
+  -- the bound at m open variables pays for a branch and for both its sides
   pub record Narrower (m : ℕ) (l r : S) : Type 0 where
     pub good-left : Good l
     pub good-right : Good r
@@ -113,7 +111,7 @@ module _ {S : Type 0} (Good : S → Type 0) (Fits : S → ℕ → Type 0) where
     pub size-right : ℕ
     pub fits-left : Fits l size-left
     pub fits-right : Fits r size-right
-    pub fewer : ((size-left + 1 ≤ m) × (size-right + 3 ≤ m)) ⊎ ((size-left + 3 ≤ m) × (size-right + 1 ≤ m))
+    pub pays : 1 + B size-left + B size-right ≤ B m
 
   module _ {A : Type 0} where
     abbrev pub Narrow : ℕ → Decision S A → Type 0
@@ -122,20 +120,16 @@ module _ {S : Type 0} (Good : S → Type 0) (Fits : S → ℕ → Type 0) where
     Narrow m (branch p l r) = Narrower m l r
 
     module _ (decide : S → Decision S A) (narrow : (s : S) (m : ℕ) → Good s → Fits s m → Narrow m (decide s)) where
-      pub splits-le : (k m : ℕ) (s : S) → Good s → Fits s m → tree decide k s .splits ≤ N m
+      pub splits-le : (f k m : ℕ) (s : S) → Good s → Fits s m → tree decide f k s .splits ≤ B m
       unfolding tree
-      splits-le zero m s g f = omega arith
-      splits-le (suc k) m s g f = go (splits-le k) (decide s) (narrow s m g f)
+      splits-le zero k m s g h = omega arith
+      splits-le (suc f) k m s g h = go (splits-le f) (decide s) (narrow s m g h)
         where
-          go : ((n : ℕ) (u : S) → Good u → Fits u n → tree decide k u .splits ≤ N n) →
-              (d : Decision S A) → Narrow m d → visit (tree decide k) d .splits ≤ N m
+          go : ((j n : ℕ) (u : S) → Good u → Fits u n → tree decide f j u .splits ≤ B n) →
+              (d : Decision S A) → Narrow m d → visit (tree decide f) k d .splits ≤ B m
           go ih dead w = omega arith
           go ih (done a) w = omega arith
           go ih (branch p l r) w =
-              let sum = second-splits (tree decide k) p r (tree decide k l .splits) (tree decide k l .found) in
-              let on-left = ih (w .size-left) l (w .good-left) (w .fits-left) in
-              let on-right = ih (w .size-right) r (w .good-right) (w .fits-right) in
-              ⊎-elim
-              (λ q. omega (arith, N-branch m (w .size-left) (w .size-right) (q .0) (q .1)))
-              (λ q. omega (arith, N-branch m (w .size-right) (w .size-left) (q .1) (q .0)))
-              (w .fewer)
+              let on-left = ih k (w .size-left) l (w .good-left) (w .fits-left) in
+              let on-right = tried-splits (tree decide f) r (B (w .size-right)) (λ j. ih j (w .size-right) r (w .good-right) (w .fits-right)) in
+              omega (arith, on-right (k - length (tree decide f k l .found)), w .pays)

@@ -8,8 +8,8 @@ use lib.ListN.{length, replicate, take, drop}
 use Rattle.general.specs.Lists.{upTo}
 use Rattle.literal.specs.declared.Literal.{Literal}
 use Rattle.literal.specs.declared.Literal.the-variants.{Pos, Neg}
-use Rattle.literal.specs.Literal.{maxClauses, maxLiterals, maxTable}
-use Rattle.receipt.specs.declared.Fault.the-variants.{TooManyClauses, TooManyLiterals, UnknownVariable, PlanShort, TrailShort, ReceiptShort, UsedLengthWrong, StateShort, TableShort}
+use Rattle.literal.specs.Literal.{maxVariables, maxClauses, maxLiterals, maxTable}
+use Rattle.receipt.specs.declared.Fault.the-variants.{TooManyClauses, TooManyLiterals, UnknownVariable, PlanShort, TrailShort, HeadsShort, ReceiptShort, UsedLengthWrong, StateShort, TableShort}
 use Rattle.receipt.specs.declared.Refusal.{Refusal}
 use Rattle.receipt.specs.declared.Checked.{Checked}
 use Rattle.receipt.specs.declared.Checked.the-variants.{Passed, Refused}
@@ -17,22 +17,25 @@ use Rattle.receipt.specs.declared.Settling.{Settling}
 use Rattle.receipt.specs.declared.Settling.the-variants as settling
 use Rattle.receipt.specs.declared.Searching.{Searching}
 use Rattle.receipt.specs.declared.Searching.the-variants as searching
+use Rattle.receipt.specs.declared.Indexing.{Indexing}
+use Rattle.receipt.specs.declared.Indexing.the-variants as indexing
+use Rattle.receipt.specs.declared.Head.{Head}
 use Rattle.receipt.specs.declared.Adding.{Adding}
 use Rattle.receipt.specs.declared.Adding.the-variants as adding
 use Rattle.receipt.specs.declared.Reading.{Reading}
 use Rattle.receipt.specs.declared.Reading.the-variants as reading
 use Rattle.receipt.specs.declared.Receipt.{Receipt}
-use Rattle.receipt.specs.declared.Outcome.the-variants as outcome
-use Rattle.receipt.specs.Receipt.{refusal, refusedReceipt}
-use Rattle.receipt.specs.Answers.{searchingReceipt}
+use Rattle.receipt.specs.Receipt.{numberOf, refusal}
+use Rattle.receipt.specs.Answers.{searchingReceipt, readVariables}
 use Rattle.theory.specs.Formula.{Choice, clauses}
+use Rattle.theory.specs.Heads.{headsOf}
+use Rattle.theory.specs.SettledList.{decided}
 use Rattle.theory.specs.State.{State, initial}
 use Rattle.theory.specs.Table.{zeros, nonzeros, refused, check}
 use Rattle.theory.specs.Propagation.{Settled, dead, rest, settle}
-use Rattle.theory.specs.Tree.{Outcome, laidOut, noLayout, stopped, Result}
+use Rattle.theory.specs.Tree.{Result}
 use Rattle.theory.specs.Search.{search, planOf, trailOf}
-use Rattle.theory.specs.Strip.{Read, goes, stops, readStrip}
-use Rattle.theory.specs.Strip as strip
+use Rattle.theory.specs.Strip.{readStrip}
 
 -- the first n elements of a list, and "Elements not named are never changed"
 abbrev pub over : {A : Type 0} → ℕ → List A → List A → List A
@@ -40,17 +43,10 @@ over n new old = new ++ drop n old
 
 -- Settle ----------------------------------------------------------------------------------------------------------
 
--- "257 taken, -257 left out": the number after the last placement's
-abbrev pub takenEntry : ℤ
-takenEntry = posℤ 257
-
-abbrev pub leftOutEntry : ℤ
-leftOutEntry = negsuc 256
-
--- "+p open, +r or -r tied to r"
+-- "257 taken, -257 left out, +p open, +r or -r tied to r"
 abbrev pub stateEntry : Literal → ℤ
-stateEntry (Pos zero) = takenEntry
-stateEntry (Neg zero) = leftOutEntry
+stateEntry (Pos zero) = posℤ decided
+stateEntry (Neg zero) = negsuc maxVariables
 stateEntry (Pos (suc r)) = posℤ (suc r)
 stateEntry (Neg (suc r)) = negsuc r
 
@@ -79,14 +75,12 @@ pub record SearchCall : Type 0 where
   pub plan : List ℕ
   pub trail : List ℤ
 
-abbrev pub searchAnswer : ℕ → Outcome Choice → Searching
-searchAnswer k (laidOut a) = searching.Ended outcome.LaidOut k
-searchAnswer k noLayout = searching.Ended outcome.NoLayout k
-searchAnswer k stopped = searching.Ended outcome.Stopped k
+abbrev pub searchAnswer : Result Choice → Searching
+searchAnswer r = searching.Ended (r .outcome) (r .count)
 
 abbrev pub searchedCall : ℕ → Result Choice → List ℕ → List ℤ → SearchCall
 searchedCall n r plan trail =
-    record { answer = searchAnswer (r .count) (r .outcome); plan = over n (planOf n (r .outcome)) plan; trail = over n (trailOf n (r .outcome)) trail }
+    record { answer = searchAnswer r; plan = over n (planOf n (r .found)) plan; trail = over n (trailOf n (r .found)) trail }
 
 abbrev pub searchRefused : Refusal → List ℕ → List ℤ → SearchCall
 searchRefused r plan trail = record { answer = searching.Refused r; plan = plan; trail = trail }
@@ -101,6 +95,25 @@ searchChecked Passed n t b plan trail =
 -- "Tables: 1, 2, 3, 4, 5, then 6, 7 (search)"
 unfoldable pub searchCall : ℕ → List ℤ → ℕ → List ℕ → List ℤ → SearchCall
 searchCall n t b plan trail = searchChecked (check n t) n t b plan trail
+
+-- Index -----------------------------------------------------------------------------------------------------------
+
+pub record IndexCall : Type 0 where
+  pub answer : Indexing
+  pub heads : List Head
+
+abbrev pub indexRefused : Refusal → List Head → IndexCall
+indexRefused r hs = record { answer = indexing.Refused r; heads = hs }
+
+abbrev pub indexChecked : Checked → List ℤ → List Head → IndexCall
+indexChecked (Refused r) t hs = indexRefused r hs
+indexChecked Passed t hs =
+    cond (ltb (length hs) (zeros t)) (indexRefused (refusal HeadsShort 0) hs)
+    (record { answer = indexing.Indexed; heads = over (zeros t) (headsOf t) hs })
+
+-- "Tables: 1, 2, 3, 4, 5, then .. 8 (index)"
+unfoldable pub indexCall : ℕ → List ℤ → List Head → IndexCall
+indexCall n t hs = indexChecked (check n t) t hs
 
 -- Add -------------------------------------------------------------------------------------------------------------
 
@@ -145,14 +158,28 @@ pub record ReadCall : Type 0 where
   pub table : List ℤ
 
 -- the table is written only where the whole strip passes
-abbrev pub readAnswer : strip.Reading → List ℤ → ReadCall
-readAnswer (stops f) t = record { answer = reading.Refused f; table = t }
-readAnswer (goes r) t = record { answer = reading.Read (r .variables) (length (r .table)); table = over (length (r .table)) (r .table) t }
-
 unfoldable pub readCall : List ℕ → List ℤ → ReadCall
-readCall s t = readAnswer (readStrip s (length t)) t
+readCall s t = let d = readStrip s (length t) in record { answer = d .reading; table = over (length (d .table)) (d .table) t }
+
+-- Solving a strip: reading it, and searching what was read ---------------------------------------------------------
+
+abbrev pub solveRead : Reading → List ℤ → ℕ → List ℕ → List ℤ → SearchCall
+solveRead (reading.Refused f) t b plan trail = searchRefused f plan trail
+solveRead (reading.Read n u) t b plan trail = searchCall n t b plan trail
+
+-- there is room for the table of every strip within the limits
+unfoldable pub solveCall : List ℕ → ℕ → List ℕ → List ℤ → SearchCall
+solveCall s b plan trail = let d = readStrip s maxTable in solveRead (d .reading) (d .table) b plan trail
+
+-- the placements of the strip, 0 where it is refused
+unfoldable pub solveVariables : List ℕ → ℕ
+solveVariables s = readVariables (readStrip s maxTable .reading)
 
 -- Window ----------------------------------------------------------------------------------------------------------
+
+-- "The receipt's first 12 bytes become number, place and count"
+abbrev pub receiptLength : ℕ
+receiptLength = 12
 
 -- "four bytes each, high byte first"
 abbrev pub bytes4 : ℕ → List ℕ
@@ -161,36 +188,18 @@ bytes4 v = v / 16777216 ∷ v / 65536 % 256 ∷ v / 256 % 256 ∷ v % 256 ∷ []
 abbrev pub receiptBytes : Receipt → List ℕ
 receiptBytes r = bytes4 (r .number) ++ (bytes4 (r .place) ++ bytes4 (r .count))
 
--- what goes on the receipt, and the plan
-pub record Run : Type 0 where
-  pub receipt : Receipt
-  pub plan : List ℕ
-
-abbrev pub ran : Receipt → List ℕ → Run
-ran r plan = record { receipt = r; plan = plan }
-
-abbrev pub searchedRun : ℕ → Result Choice → List ℕ → Run
-searchedRun n r plan = ran (searchingReceipt (searchAnswer (r .count) (r .outcome))) (over n (planOf n (r .outcome)) plan)
-
--- "strip refusals except 23, then 6"; "It searches what was read, without a trail"
-abbrev pub runOf : strip.Reading → ℕ → List ℕ → Run
-runOf (stops f) b plan = ran (refusedReceipt f) plan
-runOf (goes r) b plan =
-    cond (ltb (length plan) (r .variables)) (ran (refusedReceipt (refusal PlanShort 0)) plan) (searchedRun (r .variables) (search (r .variables) (r .table) b) plan)
-
 pub record WindowCall : Type 0 where
   pub number : ℕ
   pub plan : List ℕ
   pub receipt : List ℕ
 
-abbrev pub written : Run → List ℕ → WindowCall
-written r old = record { number = r .receipt .number; plan = r .plan; receipt = over 12 (receiptBytes (r .receipt)) old }
+-- "The call itself returns the number"
+abbrev pub written : SearchCall → List ℕ → WindowCall
+written c old = let r = searchingReceipt (c .answer) in record { number = r .number; plan = c .plan; receipt = over receiptLength (receiptBytes r) old }
 
--- the window's own table has room for every strip within the limits
-abbrev pub windowRoom : ℕ
-windowRoom = maxTable
-
--- "Window: 9, strip refusals except 23, then 6"
+-- "Window: 9, strip refusals except 23, then 6"; "It searches what was read, without a trail": the trail is its own
 unfoldable pub windowCall : List ℕ → ℕ → List ℕ → List ℕ → WindowCall
 windowCall s b plan old =
-    cond (ltb (length old) 12) (record { number = 9; plan = plan; receipt = old }) (written (runOf (readStrip s windowRoom) b plan) old)
+    cond (ltb (length old) receiptLength)
+    (record { number = numberOf ReceiptShort; plan = plan; receipt = old })
+    (written (solveCall s b plan (replicate maxVariables (posℤ 0))) old)

@@ -7,6 +7,9 @@ pub mod Propagation
 pub mod Tree
 pub mod Bound
 pub mod Search
-pub mod Filings
 pub mod Strip
+pub mod Encoding
+pub mod Heads
 pub mod Calls
+pub mod SettledList
+pub mod Filings

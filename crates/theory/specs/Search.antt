@@ -15,7 +15,7 @@ use Rattle.theory.specs.Formula.{Clause, Formula, Assignment, holds, Cho
 use Rattle.theory.specs.State.{State, initial, assign, standing}
 use Rattle.theory.specs.Rules.{live}
 use Rattle.theory.specs.Propagation.{Settled, dead, rest, settle}
-use Rattle.theory.specs.Tree.{Decision, done, branch, Found, Run, tree, Outcome, laidOut, noLayout, stopped, Result, limited}
+use Rattle.theory.specs.Tree.{Decision, done, branch, Found, Run, tree, Result, limited}
 use Rattle.theory.specs.Tree as t
 
 -- the variables that stand in live clauses
@@ -56,22 +56,28 @@ decided n f (rest s) = splitOn n s (branchVariable f s)
 unfoldable pub decide : ℕ → Formula → State → Decision State Choice
 decide n f s = decided n f (settle n f s)
 
--- the tree of a filing: each split closes one of n open variables, so fuel n + 1 is enough
+-- the tree from a state, walked to the first layout: each split closes one of n open variables, so fuel n + 1 is enough
+abbrev pub treeFrom : ℕ → Formula → State → Run Choice
+treeFrom n f s = tree (decide n f) (suc n) 1 s
+
+-- the tree of a filing
 unfoldable pub treeOf : ℕ → Formula → Run Choice
-treeOf n f = tree (decide n f) (suc n) initial
+treeOf n f = treeFrom n f initial
+
+-- what the tree of a table needs: "the number of splits met in this order up to that end, as if no allowance were set"
+abbrev pub needs : ℕ → List ℤ → ℕ
+needs n t = treeOf n (clauses t) .splits
 
 -- the search of a table with an allowance of b splits
 unfoldable pub search : ℕ → List ℤ → ℕ → Result Choice
-search n table b = limited b (treeOf n (clauses table))
+search n t b = limited b (treeOf n (clauses t))
 
 -- "the first n of the plan are the choice"; "No layout or stopped: the first n of both become 0"
-abbrev pub planOf : ℕ → Outcome Choice → List ℕ
-planOf n (laidOut a) = map bit (a .choice)
-planOf n noLayout = replicate n 0
-planOf n stopped = replicate n 0
+abbrev pub planOf : ℕ → List (Found Choice) → List ℕ
+planOf n [] = replicate n 0
+planOf n (a ∷ l) = map bit (a .choice)
 
 -- "the first n of the trail are the splits on the path, -p or +p in order, then zeros"
-abbrev pub trailOf : ℕ → Outcome Choice → List ℤ
-trailOf n (laidOut a) = map entryOf (a .path) ++ replicate (n - length (a .path)) (posℤ 0)
-trailOf n noLayout = replicate n (posℤ 0)
-trailOf n stopped = replicate n (posℤ 0)
+abbrev pub trailOf : ℕ → List (Found Choice) → List ℤ
+trailOf n [] = replicate n (posℤ 0)
+trailOf n (a ∷ l) = map entryOf (a .path) ++ replicate (n - length (a .path)) (posℤ 0)

@@ -45,6 +45,12 @@ unfoldable pub opens : State → ℕ → ℕ
 opens s zero = 0
 opens s (suc n) = bit (same (s (suc n)) (Pos (suc n))) + opens s n
 
+-- an open placement of 1 to n
+pub record Open (n : ℕ) (s : State) (p : ℕ) : Type 0 where
+  pub positive : 0 < p
+  pub inside : p ≤ n
+  pub root : s p ≡ Pos p
+
 -- an assignment does what the state says: a taken placement has 1, a tied one its root's value or the opposite
 pub record Agrees (a : Assignment) (s : State) : Type 0 where
   pub at : (p : ℕ) → a p ≡ holds a (s p)

@@ -4,158 +4,164 @@ use mathlib.Core.List.{List, [], _∷_, _++_}
 use mathlib.Core.Option.{Option, none, some}
 use Prim.Native.Nat.{ℕ, zero, suc, _+_, _*_}
 use lib.Dec.{eqb, leb, ltb}
-use lib.IntN.{ℤ, pos as posℤ}
+use lib.IntN.{ℤ, pos}
 use lib.ListN.{length, getD}
+use Rattle.general.specs.Search.{find}
+use Rattle.literal.specs.declared.Literal.{Literal}
 use Rattle.literal.specs.declared.Literal.the-variants.{Pos, Neg}
-use Rattle.literal.specs.Literal.{entryOf, maxVariables, maxClauses, maxLiterals}
-use Rattle.receipt.specs.declared.Fault.{Fault}
+use Rattle.literal.specs.Literal.{var, entryOf, maxVariables, maxClauses, maxLiterals}
 use Rattle.receipt.specs.declared.Fault.the-variants.{TooManyVariables, TooManyClauses, TooManyLiterals, UnknownVariable, UnknownMark, CutStrip, OutOfTurn, TableShort, StripTooLong}
 use Rattle.receipt.specs.declared.Refusal.{Refusal}
+use Rattle.receipt.specs.declared.Reading.{Reading}
+use Rattle.receipt.specs.declared.Reading.the-variants as reading
 use Rattle.receipt.specs.Receipt.{refusal}
+use Rattle.theory.specs.declared.Mark.{Mark}
+use Rattle.theory.specs.declared.Mark.the-variants.{Placements, Chapter, Opens, Taken, LeftOut, Closes, Ends}
+use Rattle.theory.specs.declared.Turn.{Turn}
+use Rattle.theory.specs.declared.Turn.the-variants.{Start, Outside, Inside, After}
+use Rattle.theory.specs.declared.Command.{Command}
+use Rattle.theory.specs.declared.Command.the-variants as command
+use Rattle.theory.specs.declared.Progress.{Progress}
+use Rattle.theory.specs.declared.Obeyed.{Obeyed}
+use Rattle.theory.specs.declared.Obeyed.the-variants.{Goes, Refused}
+use Rattle.theory.specs.declared.Stored.{Stored}
+use Rattle.theory.specs.declared.Stored.the-variants.{Nothing, Element}
 
-pub data Mark : Type 0 where
-  placements chapter opens taken leftOut closes ends : Mark
+-- Commands ----------------------------------------------------------------------------------------------------------
 
--- "Commands of one byte": 50, 43, 47, 54, 4C, 45, 5A
+-- "Commands of one byte", "Bytes in hexadecimal"
+abbrev pub byteOf : Mark → ℕ
+byteOf Placements = 0x50
+byteOf Chapter = 0x43
+byteOf Opens = 0x47
+byteOf Taken = 0x54
+byteOf LeftOut = 0x4C
+byteOf Closes = 0x45
+byteOf Ends = 0x5A
+
+abbrev pub marks : List Mark
+marks = Placements ∷ Chapter ∷ Opens ∷ Taken ∷ LeftOut ∷ Closes ∷ Ends ∷ []
+
+-- the mark whose byte it is
 unfoldable pub markOf : ℕ → Option Mark
-markOf b =
-    cond (eqb b 0x50) (some placements)
-    (cond (eqb b 0x43) (some chapter)
-    (cond (eqb b 0x47) (some opens)
-    (cond (eqb b 0x54) (some taken)
-    (cond (eqb b 0x4C) (some leftOut)
-    (cond (eqb b 0x45) (some closes)
-    (cond (eqb b 0x5A) (some ends) none))))))
+markOf b = find (λ m. eqb b (byteOf m)) marks
 
+-- the number of bytes of its operand
 abbrev pub operandBytes : Mark → ℕ
-operandBytes placements = 2
-operandBytes chapter = 1
-operandBytes opens = 0
-operandBytes taken = 2
-operandBytes leftOut = 2
-operandBytes closes = 0
-operandBytes ends = 0
-
--- before the placements, outside a group, inside one, after the end
-pub data Turn : Type 0 where
-  start outside inside after : Turn
-
-abbrev pub turnNumber : Turn → ℕ
-turnNumber start = 0
-turnNumber outside = 1
-turnNumber inside = 2
-turnNumber after = 3
+operandBytes Placements = 2
+operandBytes Chapter = 1
+operandBytes Opens = 0
+operandBytes Taken = 2
+operandBytes LeftOut = 2
+operandBytes Closes = 0
+operandBytes Ends = 0
 
 -- where each command is allowed; after the end none is
 abbrev pub turnOf : Mark → Turn
-turnOf placements = start
-turnOf chapter = outside
-turnOf opens = outside
-turnOf taken = inside
-turnOf leftOut = inside
-turnOf closes = inside
-turnOf ends = outside
+turnOf Placements = Start
+turnOf Chapter = Outside
+turnOf Opens = Outside
+turnOf Taken = Inside
+turnOf LeftOut = Inside
+turnOf Closes = Inside
+turnOf Ends = Outside
 
-abbrev pub allowed : Turn → Mark → Bool
-allowed t m = eqb (turnNumber t) (turnNumber (turnOf m))
+abbrev pub same : Turn → Turn → Bool
+same Start Start = true
+same Start Outside = false
+same Start Inside = false
+same Start After = false
+same Outside Start = false
+same Outside Outside = true
+same Outside Inside = false
+same Outside After = false
+same Inside Start = false
+same Inside Outside = false
+same Inside Inside = true
+same Inside After = false
+same After Start = false
+same After Outside = false
+same After Inside = false
+same After After = true
 
--- "operands high byte first", after the mark at index i
-abbrev pub operandAt : List ℕ → ℕ → Mark → ℕ
-operandAt s i placements = getD s (i + 1) 0 * 256 + getD s (i + 2) 0
-operandAt s i chapter = getD s (i + 1) 0
-operandAt s i opens = 0
-operandAt s i taken = getD s (i + 1) 0 * 256 + getD s (i + 2) 0
-operandAt s i leftOut = getD s (i + 1) 0 * 256 + getD s (i + 2) 0
-operandAt s i closes = 0
-operandAt s i ends = 0
+-- "operands high byte first": the k bytes after the mark at index i
+abbrev pub operandAt : List ℕ → ℕ → ℕ → ℕ
+operandAt s i k = cond (eqb k 0) 0 (cond (eqb k 1) (getD s (i + 1) 0) (getD s (i + 1) 0 * 256 + getD s (i + 2) 0))
 
--- what has been read: limits are counted over the whole filing, "Chapters don't change the table"
-pub record Read : Type 0 where
-  pub turn : Turn
-  pub variables : ℕ
-  pub clauses : ℕ
-  pub literals : ℕ
-  pub table : List ℤ
-
--- what has been read, or a refusal
-pub data Reading : Type 0 where
-  goes : Read → Reading
-  stops : Refusal → Reading
-
-abbrev pub refuse : Fault → ℕ → Reading
-refuse why i = stops (refusal why i)
-
-abbrev pub nothingRead : Read
-nothingRead = record { turn = start; variables = 0; clauses = 0; literals = 0; table = [] }
-
--- one more element, where there is room for it
-abbrev pub store : ℕ → ℕ → Turn → ℕ → Read → ℤ → Reading
-store room i t k r e =
-    cond (ltb (length (r .table)) room)
-    (goes (record { turn = t; variables = r .variables; clauses = r .clauses; literals = k; table = r .table ++ (e ∷ []) }))
-    (refuse TableShort i)
-
--- an entry: "value (1 or 5), limit (2 at the 513th opening, 3 at the 2,049th entry), 23"
-abbrev pub literal : ℕ → ℕ → Read → ℕ → ℤ → Reading
-literal room i r p e =
-    cond (eqb p 0 || ltb (r .variables) p) (refuse UnknownVariable i)
-    (cond (ltb (r .literals) maxLiterals) (store room i inside (suc (r .literals)) r e) (refuse TooManyLiterals i))
-
--- what a command with operand v at index i does
-unfoldable pub obey : ℕ → ℕ → Read → ℕ → Mark → Reading
-obey room i r v placements =
-    cond (ltb maxVariables v) (refuse TooManyVariables i)
-    (goes (record { turn = outside; variables = v; clauses = r .clauses; literals = r .literals; table = r .table }))
-obey room i r v chapter = goes r
-obey room i r v opens =
-    cond (ltb (r .clauses) maxClauses)
-    (goes (record { turn = inside; variables = r .variables; clauses = suc (r .clauses); literals = r .literals; table = r .table }))
-    (refuse TooManyClauses i)
-obey room i r v taken = literal room i r v (entryOf (Pos v))
-obey room i r v leftOut = literal room i r v (entryOf (Neg v))
-obey room i r v closes = store room i outside (r .literals) r (posℤ 0)
-obey room i r v ends = goes (record { turn = after; variables = r .variables; clauses = r .clauses; literals = r .literals; table = r .table })
-
--- "command by command 20, 22, 21": a mark's operand and the index of the next command, or a refusal
-pub data Command : Type 0 where
-  command : Mark → ℕ → ℕ → Command
-  refused : Refusal → Command
-
-abbrev pub commandFor : List ℕ → ℕ → Turn → Option Mark → Command
-commandFor s i t none = refused (refusal UnknownMark i)
-commandFor s i t (some m) =
-    cond (allowed t m)
-    (cond (leb (i + 1 + operandBytes m) (length s)) (command m (operandAt s i m) (i + 1 + operandBytes m)) (refused (refusal CutStrip i)))
-    (refused (refusal OutOfTurn i))
+-- "command by command 20, 22, 21": the command at index i
+abbrev pub commandOf : List ℕ → ℕ → Turn → Option Mark → Command
+commandOf s i t none = command.Refused (refusal UnknownMark i)
+commandOf s i t (some m) =
+    cond (same t (turnOf m))
+    (cond (leb (i + 1 + operandBytes m) (length s))
+    (command.Command m (operandAt s i (operandBytes m)) (i + 1 + operandBytes m))
+    (command.Refused (refusal CutStrip i)))
+    (command.Refused (refusal OutOfTurn i))
 
 unfoldable pub commandAt : List ℕ → ℕ → Turn → Command
-commandAt s i t = commandFor s i t (markOf (getD s i 0))
+commandAt s i t = commandOf s i t (markOf (getD s i 0))
 
--- at the end of the strip: "Missing 5A: place is the strip's length"
-abbrev pub finish : ℕ → Read → Turn → Reading
-finish i r start = refuse CutStrip i
-finish i r outside = refuse CutStrip i
-finish i r inside = refuse CutStrip i
-finish i r after = goes r
+-- What a command does -----------------------------------------------------------------------------------------------
+
+abbrev pub progress : Turn → ℕ → ℕ → ℕ → Progress
+progress t n c l = record { turn = t; variables = n; clauses = c; literals = l }
+
+-- an entry: "value (1 or 5), limit (.., 3 at the 2,049th entry)"
+abbrev pub entered : Progress → Literal → Obeyed
+entered p l =
+    cond (eqb (var l) 0 || ltb (p .variables) (var l)) (Refused UnknownVariable)
+    (cond (ltb (p .literals) maxLiterals)
+    (Goes (progress Inside (p .variables) (p .clauses) (p .literals + 1)) (Element (entryOf l)))
+    (Refused TooManyLiterals))
+
+-- what a command with operand v does: limits are counted over the whole filing, "Chapters don't change the table", "entries and closings each need an element"
+unfoldable pub obey : Progress → ℕ → Mark → Obeyed
+obey p v Placements = cond (ltb maxVariables v) (Refused TooManyVariables) (Goes (progress Outside v (p .clauses) (p .literals)) Nothing)
+obey p v Chapter = Goes p Nothing
+obey p v Opens =
+    cond (ltb (p .clauses) maxClauses) (Goes (progress Inside (p .variables) (p .clauses + 1) (p .literals)) Nothing) (Refused TooManyClauses)
+obey p v Taken = entered p (Pos v)
+obey p v LeftOut = entered p (Neg v)
+obey p v Closes = Goes (progress Outside (p .variables) (p .clauses) (p .literals)) (Element (pos 0))
+obey p v Ends = Goes (progress After (p .variables) (p .clauses) (p .literals)) Nothing
+
+-- The whole strip ---------------------------------------------------------------------------------------------------
+
+-- the answer, and the table that was read; a refused strip has none
+pub record Decoding : Type 0 where
+  pub reading : Reading
+  pub table : List ℤ
+
+abbrev pub notRead : Refusal → Decoding
+notRead f = record { reading = reading.Refused f; table = [] }
 
 module _ (s : List ℕ) (room : ℕ) where
-  abbrev pub onward : (ℕ → Read → Reading) → ℕ → Reading → Reading
-  onward go next (goes r) = go next r
-  onward go next (stops f) = stops f
+  -- 23: "no room for the next element"; i is the command's place
+  abbrev pub storing : (List ℤ → Decoding) → ℕ → List ℤ → Stored → Decoding
+  storing go i t Nothing = go t
+  storing go i t (Element e) = cond (ltb (length t) room) (go (t ++ (e ∷ []))) (notRead (refusal TableShort i))
 
-  abbrev pub follow : (ℕ → Read → Reading) → ℕ → Read → Command → Reading
-  follow go i r (command m v next) = onward go next (obey room i r v m)
-  follow go i r (refused f) = stops f
+  abbrev pub onward : (Progress → List ℤ → Decoding) → ℕ → List ℤ → Obeyed → Decoding
+  onward go i t (Goes p e) = storing (go p) i t e
+  onward go i t (Refused why) = notRead (refusal why i)
+
+  abbrev pub follow : (ℕ → Progress → List ℤ → Decoding) → ℕ → Progress → List ℤ → Command → Decoding
+  follow go i p t (command.Command m v next) = onward (go next) i t (obey p v m)
+  follow go i p t (command.Refused f) = notRead f
+
+  -- at the end of the strip: "Missing 5A: place is the strip's length"
+  abbrev pub finish : Progress → List ℤ → Decoding
+  finish p t = cond (same (p .turn) After) (record { reading = reading.Read (p .variables) (length t); table = t }) (notRead (refusal CutStrip (length s)))
 
   -- command by command, with fuel for k - 1 commands
-  unfoldable pub readFrom : ℕ → ℕ → Read → Reading
-  readFrom zero i r = refuse CutStrip i
-  readFrom (suc k) i r = cond (ltb i (length s)) (follow (readFrom k) i r (commandAt s i (r .turn))) (finish (length s) r (r .turn))
+  unfoldable pub readFrom : ℕ → ℕ → Progress → List ℤ → Decoding
+  readFrom zero i p t = notRead (refusal CutStrip i)
+  readFrom (suc k) i p t = cond (ltb i (length s)) (follow (readFrom k) i p t (commandAt s i (p .turn))) (finish p t)
 
 -- "Strips: 24 first, place 0"
 abbrev pub maxStrip : ℕ
 maxStrip = 16384
 
 -- the reading of a strip with room for so many elements: each command takes a byte, so fuel of one more than the length is enough
-unfoldable pub readStrip : List ℕ → ℕ → Reading
-readStrip s room = cond (ltb maxStrip (length s)) (refuse StripTooLong 0) (readFrom s room (suc (length s)) 0 nothingRead)
+unfoldable pub readStrip : List ℕ → ℕ → Decoding
+readStrip s room = cond (ltb maxStrip (length s)) (notRead (refusal StripTooLong 0)) (readFrom s room (suc (length s)) 0 (progress Start 0 0 0) [])

@@ -1,10 +1,10 @@
 -- What every operation asks of a table first: document 01's refusals 1 to 5, each over the whole table before the next.
-use mathlib.Core.Bool.{Bool, true, false, not, cond}
-use mathlib.Core.List.{List, [], _∷_}
+use mathlib.Core.Bool.{Bool, false, not, cond}
+use mathlib.Core.List.{List, [], _∷_, _++_, List·Memᴰ}
 use mathlib.Core.Path.{_≡_}
-use Prim.Native.Nat.{ℕ, zero, suc, _+_}
+use Prim.Native.Nat.{ℕ, suc, _+_, _≤_}
 use lib.Dec.{ltb, eqb}
-use lib.IntN.{ℤ, natAbs}
+use lib.IntN.{ℤ, natAbs, pos as posℤ}
 use Rattle.general.specs.Booleans.{bit}
 use Rattle.literal.specs.Literal.{maxVariables, maxClauses, maxLiterals}
 use Rattle.receipt.specs.declared.Fault.{Fault}
@@ -47,6 +47,19 @@ check n t =
     (cond (endsOpen false t) (refused OpenClause 0)
     (unknownFrom 0 n t))))
 
--- the table is within the limits
+-- the check passes
 abbrev pub Accepted : ℕ → List ℤ → Type 0
 Accepted n t = check n t ≡ Passed
+
+-- "within the limits of document 01": the same without an order of refusals
+pub record WithinLimits (n : ℕ) (t : List ℤ) : Type 0 where
+  -- "n is 0 to 256."
+  pub variables : n ≤ maxVariables
+  -- "Closed groups (zeros): at most 512 over the whole table."
+  pub clauses : zeros t ≤ maxClauses
+  -- "Entries (non-zeros): at most 2,048 over the whole table."
+  pub literals : nonzeros t ≤ maxLiterals
+  -- "A non-empty table ends in 0."
+  pub ends : (b : List ℤ) (e : ℤ) → t ≡ b ++ (e ∷ []) → e ≡ posℤ 0
+  -- no "entry's size above n"
+  pub known : (e : ℤ) → List·Memᴰ e t → natAbs e ≤ n

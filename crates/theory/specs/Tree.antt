@@ -1,11 +1,13 @@
--- The split tree over any kind of state, and the allowance as a function of what the tree needs.
-use mathlib.Core.Bool.{Bool, true, false, cond}
-use mathlib.Core.List.{List, [], _∷_}
-use mathlib.Core.Option.{Option, none, some, Option·map}
-use Prim.Native.Nat.{ℕ, zero, suc, _+_}
+-- The split tree over any kind of state, walked until as many layouts are found as are wanted, and the allowance as a function of what the tree needs.
+use mathlib.Core.Bool.{cond}
+use mathlib.Core.List.{List, [], _∷_, _++_, map}
+use Prim.Native.Nat.{ℕ, zero, suc, _+_, _-_}
 use lib.Dec.{leb}
+use lib.ListN.{length}
 use Rattle.literal.specs.declared.Literal.{Literal}
 use Rattle.literal.specs.declared.Literal.the-variants.{Pos, Neg}
+use Rattle.receipt.specs.declared.Outcome.{Outcome}
+use Rattle.receipt.specs.declared.Outcome.the-variants.{LaidOut, NoLayout, Stopped}
 
 -- what is decided of a state: a dead end, a layout, or a split on a variable, with the states of its left-out and taken sides
 pub data Decision (S A : Type 0) : Type 0 where
@@ -20,50 +22,58 @@ pub record Found (A : Type 0) : Type 0 where
 
 -- what a walk of the tree finds, and the splits met up to its end
 pub record Run (A : Type 0) : Type 0 where
-  pub found : Option (Found A)
+  pub found : List (Found A)
   pub splits : ℕ
 
 module _ {A : Type 0} where
-  abbrev pub run : Option (Found A) → ℕ → Run A
-  run o k = record { found = o; splits = k }
+  abbrev pub run : List (Found A) → ℕ → Run A
+  run l k = record { found = l; splits = k }
 
-  abbrev pub through : Literal → Found A → Found A
-  through l a = record { choice = a .choice; path = l ∷ a .path }
+  abbrev pub through : Literal → List (Found A) → List (Found A)
+  through x = map (λ a. record { choice = a .choice; path = x ∷ a .path })
+
+  -- a split on p, of its left-out side and its taken side
+  abbrev pub split : ℕ → Run A → Run A → Run A
+  split p a b = run (through (Neg p) (a .found) ++ through (Pos p) (b .found)) (1 + a .splits + b .splits)
 
 module _ {S A : Type 0} where
-  -- a split on p whose left-out side met k splits: "only if that has no layout try it taken"
-  abbrev pub second : (S → Run A) → ℕ → S → ℕ → Option (Found A) → Run A
-  second walk p r k none = run (Option·map (through (Pos p)) (walk r .found)) (1 + k + walk r .splits)
-  second walk p r k (some a) = run (some (through (Neg p) a)) (1 + k)
+  -- a side is tried only where layouts are still wanted
+  abbrev pub tried : (ℕ → S → Run A) → ℕ → S → Run A
+  tried walk zero s = run [] 0
+  tried walk (suc k) s = walk (suc k) s
 
-  abbrev pub visit : (S → Run A) → Decision S A → Run A
-  visit walk dead = run none 0
-  visit walk (done a) = run (some (record { choice = a; path = [] })) 0
-  visit walk (branch p l r) = second walk p r (walk l .splits) (walk l .found)
+  -- k layouts are wanted, one of a plain search: then the taken side is tried "only if that has no layout"
+  abbrev pub visit : (ℕ → S → Run A) → ℕ → Decision S A → Run A
+  visit walk k dead = run [] 0
+  visit walk k (done a) = run (record { choice = a; path = [] } ∷ []) 0
+  visit walk k (branch p l r) = let a = walk k l in split p a (tried walk (k - length (a .found)) r)
 
-  -- "as if no allowance were set", with fuel for k - 1 splits on a path
-  unfoldable pub tree : (S → Decision S A) → ℕ → S → Run A
-  tree decide zero s = run none 0
-  tree decide (suc k) s = visit (tree decide k) (decide s)
+  -- "as if no allowance were set", with fuel for f - 1 splits on a path
+  unfoldable pub tree : (S → Decision S A) → ℕ → ℕ → S → Run A
+  tree decide zero k s = run [] 0
+  tree decide (suc f) k s = visit (tree decide f) k (decide s)
 
--- how a search ends
-pub data Outcome (A : Type 0) : Type 0 where
-  laidOut : Found A → Outcome A
-  noLayout : Outcome A
-  stopped : Outcome A
-
+-- how a search ends, its count, and what it found
 pub record Result (A : Type 0) : Type 0 where
-  pub outcome : Outcome A
+  pub outcome : Outcome
   pub count : ℕ
+  pub found : List (Found A)
 
 module _ {A : Type 0} where
-  abbrev pub finished : Option (Found A) → Outcome A
-  finished none = noLayout
-  finished (some a) = laidOut a
+  abbrev pub result : Outcome → ℕ → List (Found A) → Result A
+  result o k l = record { outcome = o; count = k; found = l }
 
-  -- "A search is stopped when a split is needed and the allowance is used up"; "A stop's count is the allowance"
+  abbrev pub finished : List (Found A) → Outcome
+  finished [] = NoLayout
+  finished (a ∷ l) = LaidOut
+
+  abbrev pub finish : Run A → Result A
+  finish r = result (finished (r .found)) (r .splits) (r .found)
+
+  -- "A stop's count is the allowance"
+  abbrev pub stop : ℕ → Result A
+  stop b = result Stopped b []
+
+  -- "A search is stopped when a split is needed and the allowance is used up"
   unfoldable pub limited : ℕ → Run A → Result A
-  limited b r =
-      cond (leb (r .splits) b)
-      (record { outcome = finished (r .found); count = r .splits })
-      (record { outcome = stopped; count = b })
+  limited b r = cond (leb (r .splits) b) (finish r) (stop b)

@@ -8,7 +8,7 @@ use Rattle.receipt.specs.declared.Adding.the-variants.{Added}
 use Rattle.receipt.specs.declared.Checked.{Checked}
 use Rattle.theory.specs.Calls.{added, addCall}
 use Rattle.add.specs.Add.{called}
-use Rattle.add.proofs.Refusals.{unlessRefused, call-checked, passed-room}
+use Rattle.add.proofs.Refusals.{unlessRefused, call-checked, checked-exactly}
 use Rattle.add.proofs.add.Statement.{statement}
 use Rattle.add.proofs.add.Tie as tie
 
@@ -26,7 +26,7 @@ room : (c : tie.After-enum-told) →
 room c =
     let h = c .before .before in
     let a = h .before .before .args in
-    passed-room (a .used) (a .n) (a .group .now) (a .buffer .now) (sym (h .check-added .ensures) ∙ c .enum-told .given .1)
+    omega (arith, checked-exactly (a .used) (a .n) (a .group .now) (a .buffer .now) .0 (sym (h .check-added .ensures) ∙ c .enum-told .given .1) .room)
 
 store-requires : tie.Need-store-requires
 store-requires c κs = room (c .before)

@@ -1,25 +1,27 @@
--- `clear_bytes` meets its contract, by the laws of Writing.
+-- `clear_bytes` meets its contract, by the laws of Runs.
 use Prim.Native.Nat.{_-_}
-use mathlib.Core.Path.{refl}
 use borrow.Author.Needs.{needs}
-use Rattle.fill.proofs.Writing.{Writing, begun, turned, cleared}
+use lib.ListN.{replicate}
+use Rattle.general.specs.Runs.{Writing, begun, turned-filling, filled}
 use Rattle.fill.proofs.clear_bytes.Statement.{statement}
 use Rattle.fill.proofs.clear_bytes.Tie as tie
 
 abbrev Inv-loop : tie.InvT-loop
-Inv-loop list₀ n i₀ list i = Writing (λ p. 0) n list₀ list i
+Inv-loop bytes₀ n i₀ bytes i = Writing 0 n (replicate n 0) bytes₀ bytes i
 
 abbrev μ-loop : tie.MeasureT-loop
-μ-loop list₀ n i₀ list i = n - i
+μ-loop bytes₀ n i₀ bytes i = n - i
 
 pub clear-bytes-spec : {M : Type 1} → statement M
 clear-bytes-spec =
     tie.close
-    (tie.spec Inv-loop μ-loop
-    (λ c. begun (λ p. 0) _ _)
+    (tie.spec
+    Inv-loop
+    μ-loop
+    (λ c. begun _ _ _ _)
     (λ c. search needs)
     (λ c. search needs)
     (λ c. search needs)
-    (λ c. turned (λ p. 0) _ _ _ _ (c .before .loop .inv) (c .before .before .pre) (c .loop-test .taken) 0 refl)
+    (λ c. turned-filling 0 _ _ _ _ (c .before .loop .inv) (search needs) (c .loop-test .taken))
     (λ c. search needs)
-    (λ c. cleared 0 _ _ _ _ (c .before .loop .inv) (c .loop-test .left)))
+    (λ c. filled 0 _ _ _ _ (c .before .loop .inv) (c .loop-test .left)))

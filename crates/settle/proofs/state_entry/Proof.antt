@@ -9,13 +9,13 @@ use mir.Syntax.{w16}
 use mir.ValLaws.{toZ-ofZ}
 use Rattle.literal.specs.declared.Literal.{Literal}
 use Rattle.literal.specs.declared.Literal.the-variants.{Pos, Neg}
-use Rattle.literal.specs.Literal.{TRUE, isOpen, same, entryOf}
-use Rattle.theory.specs.Calls.{takenEntry, leftOutEntry, stateEntry}
+use Rattle.literal.specs.Literal.{TRUE, FALSE, isOpen, same, entryOf}
+use Rattle.theory.specs.Calls.{stateEntry}
 use Rattle.settle.proofs.state_entry.Statement.{statement}
 use Rattle.settle.proofs.state_entry.Tie as tie
 
 -- by the tests of code
-by-tests : (x : Literal) → stateEntry x ≡ cond (isOpen x) (entryOf x) (cond (same x TRUE) takenEntry leftOutEntry)
+by-tests : (x : Literal) → stateEntry x ≡ cond (isOpen x) (entryOf x) (cond (same x TRUE) (stateEntry TRUE) (stateEntry FALSE))
 by-tests (Pos zero) = refl
 by-tests (Pos (suc p)) = rw (lt-ltb 0 (suc p) (omega arith))
 by-tests (Neg zero) = refl

@@ -1,0 +1,148 @@
+-- What a call of Add promises, by its receipt, the new used length and the buffer after it. All of it follows from the equation that `add` ensures.
+use mathlib.Core.Path.{_≡_, refl, ap, sym, subst, _∙_}
+use mathlib.Core.Bool.{false}
+use mathlib.Core.Logic.{⊎-elim, _↔_}
+use mathlib.Core.List.{List, [], _∷_, _++_, map, append-assoc, List·Memᴰ, List·Memᴰ·append-cases, List·Memᴰ·eq-of-singleton}
+use Prim.Native.Nat.{ℕ, _+_, _<_, zero-le}
+use native.Mathlib.Omega.{arith}
+use lib.IntN.{ℤ, natAbs, pos as posℤ}
+use lib.ListN.{length, take, drop, length-append}
+use lib.Seq.{length-take-le, take-at, drop-at}
+use Rattle.literal.specs.Literal.{literalOf}
+use Rattle.receipt.specs.Receipt.{receipt}
+use Rattle.receipt.specs.Answers.{addingReceipt, addedLength}
+use Rattle.receipt.specs.declared.Adding.{Adding}
+use Rattle.receipt.specs.declared.Adding.the-variants as adding
+use Rattle.receipt.specs.declared.Checked.{Checked}
+use Rattle.receipt.specs.declared.Checked.the-variants.{Passed, Refused}
+use Rattle.receipt.specs.declared.Refusal.{Refusal}
+use Rattle.receipt.proofs.Numbers.{not-refused}
+use Rattle.theory.specs.Calls.{AddCall, added, addCall}
+use Rattle.theory.specs.Formula.{clauses}
+use Rattle.theory.specs.Table.{zeros, nonzeros, endsOpen, WithinLimits}
+use Rattle.theory.proofs.Tables.{zeros-append, nonzeros-append, length-elements, endsOpen-append, closed-ends, accepted-exactly, accepted-closed, clauses-append, clauses-one, no-zeros}
+use Rattle.add.specs.Add.{checkAdded, called}
+use Rattle.add.specs.Addable.{Addable}
+use Rattle.add.proofs.Refusals.{unlessRefused, call-checked, checked-exactly}
+
+abbrev pub numberOf : Adding → ℕ
+numberOf r = addingReceipt r .number
+
+abbrev pub NotRefused : Adding → Type 0
+NotRefused r = (w : Refusal) → ¬ (r ≡ adding.Refused w)
+
+-- a call of Add on list g, after the first u elements of buffer b: its answer r, and the buffer after it
+pub record Call (u n : ℕ) (g b : List ℤ) (r : Adding) (b′ : List ℤ) : Type 0 where
+  pub is : called r b′ ≡ addCall u n g b
+
+-- the buffer b′ after list g was added, with v the new used length
+pub record Stored (u n : ℕ) (g b b′ : List ℤ) (v : ℕ) : Type 0 where
+  -- "The list and a closing 0 are stored at u"
+  pub list : drop u (take v b′) ≡ g ++ (posℤ 0 ∷ [])
+  -- "Elements not named are never changed."
+  pub before : take u b′ ≡ take u b
+  pub after : drop v b′ ≡ drop v b
+  -- the used part is again a table within the limits, whose groups are the old ones and then the list
+  pub limits : WithinLimits n (take v b′)
+  pub groups : clauses (take v b′) ≡ clauses (take u b) ++ (map literalOf g ∷ [])
+
+-- the two ways in which a call ends
+data Way (u n : ℕ) (g b : List ℤ) : Adding → List ℤ → Type 0 where
+  refused : (w : Refusal) → ¬ Addable u n g b → Way u n g b (adding.Refused w) b
+  stored : Addable u n g b → Way u n g b (adding.Added (u + length g + 1)) (added u g b)
+
+abbrev By : ℕ → ℕ → List ℤ → List ℤ → AddCall → Type 0
+By u n g b s = Way u n g b (s .answer) (s .buffer)
+
+way : {u n : ℕ} {g b : List ℤ} {r : Adding} {b′ : List ℤ} → Call u n g b r b′ → Way u n g b r b′
+way {u} {n} {g} {b} c = subst (By u n g b) (sym (c .is ∙ call-checked b u n g)) (go (checkAdded u n g b) refl)
+  where
+    go : (k : Checked) → checkAdded u n g b ≡ k → By u n g b (unlessRefused b k (called (adding.Added (u + length g + 1)) (added u g b)))
+    go (Refused w) e = refused w (λ h. let z : _≡_ {A = ℕ} 0 1 = cc (checked-exactly u n g b .1 h) in omega arith)
+    go Passed e = stored (checked-exactly u n g b .0 e)
+
+-- the used part with the list and its 0 --------------------------------------------------------------------------------
+
+module _ {u n : ℕ} {g b : List ℤ} (a : Addable u n g b) where
+  abbrev used : List ℤ
+  used = take u b
+
+  abbrev group : List ℤ
+  group = g ++ (posℤ 0 ∷ [])
+
+  group-long : length group ≡ length g + 1
+  group-long = length-append g _
+
+  used-long : length used ≡ u
+  used-long = length-take-le u b (a .used)
+
+  whole : added u g b ≡ (used ++ group) ++ drop (u + length g + 1) b
+  whole = rw (append-assoc used group, append-assoc g)
+
+  long : length (used ++ group) ≡ u + length g + 1
+  long = omega (arith, length-append used group, used-long, group-long)
+
+  table-is : take (u + length g + 1) (added u g b) ≡ used ++ group
+  table-is = rw whole (take-at (used ++ group) _ _ long)
+
+  entries : (e : ℤ) → List·Memᴰ e g → 0 < natAbs e
+  entries e m = a .known e m .0
+
+  grown-limits : WithinLimits n (used ++ group)
+  unfolding zeros nonzeros endsOpen
+  grown-limits = record {
+    variables = a .within .variables;
+    clauses = omega (arith, zeros-append used group, zeros-append g (posℤ 0 ∷ []), no-zeros g entries, a .clauses);
+    literals = omega (arith, nonzeros-append used group, nonzeros-append g (posℤ 0 ∷ []), length-elements g, no-zeros g entries, a .literals);
+    ends = closed-ends (used ++ group) (endsOpen-append false used group ∙ endsOpen-append (endsOpen false used) g (posℤ 0 ∷ []));
+    known = λ e m. ⊎-elim (a .within .known e) (λ k. ⊎-elim
+        (λ j. a .known e j .1)
+        (λ j. let q : e ≡ posℤ 0 = List·Memᴰ·eq-of-singleton j in rw q zero-le)
+        (List·Memᴰ·append-cases g k)) (List·Memᴰ·append-cases used m);
+  }
+
+  grown-clauses : clauses (used ++ group) ≡ clauses used ++ (map literalOf g ∷ [])
+  grown-clauses =
+      clauses-append false used group (accepted-closed n used (accepted-exactly n used .1 (a .within)))
+      ∙ ap (_++_ (clauses used)) (clauses-one g entries)
+
+-- the promises ---------------------------------------------------------------------------------------------------------
+
+module _ {u n : ℕ} {g b : List ℤ} {r : Adding} {b′ : List ℤ} (c : Call u n g b r b′) where
+  -- demand 1, of Add: accepted exactly when the list may be added
+  pub add-accepts : NotRefused r ↔ Addable u n g b
+  add-accepts = go (way c)
+    where
+      go : {r : Adding} {b′ : List ℤ} → Way u n g b r b′ → NotRefused r ↔ Addable u n g b
+      go (refused w h) = (λ k. absurd (k w refl), λ a. absurd (h a))
+      go (stored a) = (λ _. a, λ _ w q. let z : _≡_ {A = ℕ} 0 1 = cc in omega arith)
+
+  -- 15 group added; "the answer is the new used length"
+  pub add-answers : NotRefused r → (addingReceipt r ≡ receipt 15 0 0) × (addedLength r ≡ u + length g + 1)
+  add-answers = go (way c)
+    where
+      go : {r : Adding} {b′ : List ℤ} → Way u n g b r b′ → NotRefused r → (addingReceipt r ≡ receipt 15 0 0) × (addedLength r ≡ u + length g + 1)
+      go (refused w h) k = absurd (k w refl)
+      go (stored a) k = (refl, refl)
+
+  -- demand 1: "a refused call changes no lent element"; "0 on refusal"
+  pub add-refused-unchanged : (w : Refusal) → r ≡ adding.Refused w → (b′ ≡ b) × (addedLength r ≡ 0)
+  add-refused-unchanged w = go (way c)
+    where
+      go : {r : Adding} {b′ : List ℤ} → Way u n g b r b′ → r ≡ adding.Refused w → (b′ ≡ b) × (addedLength r ≡ 0)
+      go (refused x h) q = (refl, refl)
+      go (stored a) q = absurd (let z : _≡_ {A = ℕ} 0 1 = cc in omega arith)
+
+  -- 15: the list is stored, and the used part is a table again
+  pub add-stores : numberOf r ≡ 15 → Stored u n g b b′ (addedLength r)
+  add-stores = go (way c)
+    where
+      go : {r : Adding} {b′ : List ℤ} → Way u n g b r b′ → numberOf r ≡ 15 → Stored u n g b b′ (addedLength r)
+      go (refused w h) q = absurd (not-refused (w .fault) 15 refl q)
+      go (stored a) q = record {
+        before = take-at (take u b) _ u (used-long a);
+        list = rw (table-is a) (drop-at (take u b) _ u (used-long a));
+        after = rw (whole a) (drop-at (take u b ++ group a) _ _ (long a));
+        limits = rw (table-is a) (grown-limits a);
+        groups = rw (table-is a) (grown-clauses a);
+      }
