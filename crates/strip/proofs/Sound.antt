@@ -25,7 +25,7 @@ use Rattle.theory.specs.declared.Stored.the-variants.{Nothing, Element}
 use Rattle.theory.specs.declared.Obeyed.{Obeyed}
 use Rattle.theory.specs.declared.Obeyed.the-variants.{Goes, Refused}
 use Rattle.theory.specs.Formula.{Clause, Formula}
-use Rattle.theory.specs.Strip.{turnOf, same, progress, entered, obey}
+use Rattle.theory.specs.Strip.{turnOf, same, nothingRead, entered, obey}
 use Rattle.theory.specs.Encoding.{Item, chapter, group, commandBytes, entryBytes, itemBytes, encode, groups, tableOf, entries, Bytes}
 use Rattle.theory.proofs.Tables.{InRange, push-range}
 
@@ -42,7 +42,7 @@ pub record Sound (p : Progress) (used : ℕ) : Type 0 where
   pub literals : p .literals ≤ maxLiterals
   pub elements : used + pending (p .turn) ≡ p .clauses + p .literals
 
-pub begun-sound : Sound (progress Start 0 0 0) 0
+pub begun-sound : Sound nothingRead 0
 begun-sound = record { variables = omega arith; clauses = omega arith; literals = omega arith; elements = refl }
 
 -- how many elements are stored, and the table with them

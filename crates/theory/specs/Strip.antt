@@ -106,6 +106,9 @@ commandAt s i t = commandOf s i t (markOf (getD s i 0))
 abbrev pub progress : Turn → ℕ → ℕ → ℕ → Progress
 progress t n c l = record { turn = t; variables = n; clauses = c; literals = l }
 
+abbrev pub nothingRead : Progress
+nothingRead = progress Start 0 0 0
+
 -- an entry: "value (1 or 5), limit (.., 3 at the 2,049th entry)"
 abbrev pub entered : Progress → Literal → Obeyed
 entered p l =
@@ -167,4 +170,4 @@ maxStrip = 16384
 
 -- the reading of a strip with room for so many elements: each command takes a byte, so fuel of one more than the length is enough
 unfoldable pub readStrip : List ℕ → ℕ → Decoding
-readStrip s room = cond (ltb maxStrip (length s)) (notRead (refusal StripTooLong 0)) (readFrom s room (suc (length s)) 0 (progress Start 0 0 0) [])
+readStrip s room = cond (ltb maxStrip (length s)) (notRead (refusal StripTooLong 0)) (readFrom s room (suc (length s)) 0 nothingRead [])
