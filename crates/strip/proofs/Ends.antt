@@ -80,7 +80,8 @@ module _ (s : List ℕ) (room : ℕ) where
           ((n : ℕ) (T : List ℤ) → Left s next (q .turn) q (with t e) n T → Left s i (p .turn) p t n T) → Ends i p t (storing s room (readFrom s room k next q) i t e)
       stored q Nothing g back = carried q t back (readFrom s room k next q t) (ih q t (rw add-zero at g) fits)
       stored q (Element x) g back = cond-ind (Ends i p t) _ _ (ltb (length t) room)
-          (λ b. carried q (t ++ (x ∷ [])) back (readFrom s room k next q (t ++ (x ∷ []))) (ih q (t ++ (x ∷ [])) (rw (length-append t (x ∷ [])) g) (omega (arith, length-append t (x ∷ []), ltb-true (length t) room b))))
+          (λ b. carried q (t ++ (x ∷ [])) back (readFrom s room k next q (t ++ (x ∷ [])))
+          (ih q (t ++ (x ∷ [])) (rw (length-append t (x ∷ [])) g) (omega (arith, length-append t (x ∷ []), ltb-true (length t) room b))))
           (λ b. (refl, placed, λ w z. omega (arith, ltb-false (length t) room b, g .elements, g .clauses, g .literals)))
 
       went : (u : Turn) → p .turn ≡ u → (o : Obeyed) → Keeps s i next p t u o → Ends i p t (onward s room (readFrom s room k next) i t o)

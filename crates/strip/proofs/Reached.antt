@@ -52,7 +52,8 @@ module _ {s : List ℕ} {room at used : ℕ} {p : Progress} {cells : List ℤ} (
   used-length = length-take-le used cells in-cells
 
   -- the end of the strip
-  pub ended : length s ≤ at → (r : Reading) → r ≡ ending (length s) p used → _≡_ {A = Decoding} (record { reading = r; table = take (readLength r) cells }) (readStrip s room)
+  pub ended : length s ≤ at → (r : Reading) → r ≡ ending (length s) p used →
+      _≡_ {A = Decoding} (record { reading = r; table = take (readLength r) cells }) (readStrip s room)
   unfolding readFrom
   ended l r e = rw (e, in-use (same (p .turn) After)) (rw (le-ltb at (length s) l, used-length) at (a .rest))
     where
@@ -93,8 +94,8 @@ module _ {s : List ℕ} {room at used : ℕ} {p : Progress} {cells : List ℤ} {
     sound : Sound q (used + elements e)
     sound =
         let d : Sound p (length (take used cells)) = rw (used-length a) (a .sound) in
-        let k : Sound q (length (take used cells) + elements e) = (rw (← g) at (obey-keeps s at next p (take used cells) d m v (stands .turn) (command-bytes s at stands))) .0 in
-        rw (used-length a) at k
+        let k = rw (← g) at (obey-keeps s at next p (take used cells) d m v (stands .turn) (command-bytes s at stands)) in
+        rw (used-length a) at (k .0)
 
     storing-rest : storing s room (readFrom s room (a .fuel) next q) at (take used cells) e ≡ readStrip s room
     storing-rest = rw (← g) at obeying

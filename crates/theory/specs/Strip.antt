@@ -117,7 +117,8 @@ entered p l =
     (Goes (progress Inside (p .variables) (p .clauses) (p .literals + 1)) (Element (entryOf l)))
     (Refused TooManyLiterals))
 
--- what a command with operand v does: limits are counted over the whole filing, "Chapters don't change the table", "entries and closings each need an element"
+-- what a command with operand v does: limits are counted over the whole filing, "2 at the 513th opening", "Chapters don't change the table",
+-- "entries and closings each need an element"
 unfoldable pub obey : Progress → ℕ → Mark → Obeyed
 obey p v Placements = cond (ltb maxVariables v) (Refused TooManyVariables) (Goes (progress Outside v (p .clauses) (p .literals)) Nothing)
 obey p v Chapter = Goes p Nothing
@@ -143,7 +144,7 @@ abbrev pub ending : ℕ → Progress → ℕ → Reading
 ending n p u = cond (same (p .turn) After) (reading.Read (p .variables) u) (reading.Refused (refusal CutStrip n))
 
 module _ (s : List ℕ) (room : ℕ) where
-  -- 23: "no room for the next element"; i is the command's place
+  -- last of all 23, "no room for the next element"; i is the command's place
   abbrev pub storing : (List ℤ → Decoding) → ℕ → List ℤ → Stored → Decoding
   storing go i t Nothing = go t
   storing go i t (Element e) = cond (ltb (length t) room) (go (t ++ (e ∷ []))) (notRead (refusal TableShort i))
