@@ -1,4 +1,4 @@
-/* The drawing window's call: a search of a strip, for C.
+/* The drawing window's call: a search of a strip, for C and C++.
  *
  * Lends a strip, an allowance of splits, a plan and a receipt. Where the receipt has at least 12 bytes, its first 12 become number, place and
  * count, four bytes each, high byte first. The answer is the number: 0 laid out (the first n bytes of the plan are the choice), 10 no layout, 11
@@ -10,6 +10,14 @@
 #include <stddef.h>
 #include <stdint.h>
 
+#ifdef __cplusplus
+extern "C" {
+#endif
+
 uint32_t window(const uint8_t *strip, size_t strip_len, uint32_t allowance, uint8_t *plan, size_t plan_len, uint8_t *receipt, size_t receipt_len);
+
+#ifdef __cplusplus
+}
+#endif
 
 #endif

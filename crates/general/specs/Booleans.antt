@@ -51,3 +51,7 @@ module _ {A : Type 0} (P : A → Type 0) (x y : A) where
   pub cond-ind : (b : Bool) → (b ≡ true → P x) → (b ≡ false → P y) → P (cond b x y)
   cond-ind true f g = f refl
   cond-ind false f g = g refl
+
+pub cond-same : {A : Type 0} (x : A) (b : Bool) → cond b x x ≡ x
+cond-same x true = refl
+cond-same x false = refl

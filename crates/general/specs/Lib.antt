@@ -4,3 +4,4 @@ pub mod Search
 pub mod Options
 pub mod Counting
 pub mod Runs
+pub mod Appending

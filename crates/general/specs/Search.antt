@@ -12,6 +12,19 @@ module _ {A : Type 0} (test : A → Bool) where
   find [] = none
   find (x ∷ l) = cond (test x) (some x) (find l)
 
+  -- by the element in front
+  pub find-end : {l : List A} → l ≡ [] → find l ≡ none
+  unfolding find
+  find-end e = rw e
+
+  pub find-here : {l m : List A} {x : A} → l ≡ x ∷ m → test x ≡ true → find l ≡ some x
+  unfolding find
+  find-here e h = rw (e, h)
+
+  pub find-later : {l m : List A} {x : A} → l ≡ x ∷ m → test x ≡ false → find l ≡ find m
+  unfolding find
+  find-later e h = rw (e, h)
+
   unfoldable pub any : List A → Bool
   any [] = false
   any (x ∷ l) = test x || any l

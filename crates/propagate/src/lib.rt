@@ -1,146 +1,121 @@
 // Propagation (settling) of a table: each step is the very one that document 01 picks.
-// A step looks at every clause for rules 1 to 6; only where none fits it looks at pairs, counting each clause once and looking at each later one once.
 ghost use mathlib.Core.Path.{_≡_};
-ghost use mathlib.Core.Option.{none, Option·map};
-ghost use mathlib.Core.Bool.{cond};
-ghost use Prim.Native.Nat.{_≤_};
-ghost use lib.ListN.{length};
+ghost use mathlib.Core.Option.{orElse};
+ghost use Prim.Native.Nat.{_+_, _≤_};
+ghost use Rattle.literal.specs.Literal.{maxVariables};
 ghost use Rattle.theory.specs.Formula.{clauses, Within};
 ghost use Rattle.theory.specs.State.{WellFormed};
-ghost use Rattle.theory.specs.Propagation.{step, settle};
+ghost use Rattle.theory.specs.Propagation.{firstClause, firstPair, step, settle};
 ghost use Rattle.state.specs.State.{stateOf, InRange};
-ghost use Rattle.rules.specs.Pairs.{aliveBy};
-ghost use Rattle.rules.specs.Code.{Ready, clauseAt, fitAs};
-ghost use Rattle.propagate.specs.Best.{better, bestFrom, partnerOf, pairOf};
-ghost use Rattle.propagate.specs.Code.{clausesAs, clausesFrom, Later, askedAs, settledAs};
+ghost use Rattle.clause.specs.Reading.{Ready, Begins, clausesFrom};
+ghost use Rattle.rules.specs.Rules.{pairRule, ruleAt};
+ghost use Rattle.propagate.specs.Code.{answer, settled};
+use literal::ClauseNumber;
 use literal::Literal;
 use rules::Fit;
+use rules::PairRule;
+use rules::Rule;
 use state::State;
+use theory::Asked;
+use theory::Step;
 
-// A rule's answer, with the number of the clause that asks, of a pair the later one.
-pub struct Asked {
-    pub fit: Fit,
-    pub clause: u16,
+// What the rules ask of all clauses, or of some.
+pub enum Answer {
+    Nothing,
+    Asks(Asked),
 }
 
+// Where settling ends. At a dead end the state is free: it is the one in which the dead end was met.
 pub struct Settled {
     pub dead: bool,
     pub state: State,
 }
 
-fn not_asked() -> Asked
-    ensures { λ r. ⌜ askedAs r ≡ none ⌝ }
+// The first clause from the one at `from`, which has number `clause`, that a rule fits.
+fn first_clause(
+    table: &[i16],
+    values: &[u16; Literal::VARIABLES],
+    rule: Rule,
+    from: usize,
+    clause: ClauseNumber,
+) -> Answer
+    requires { ⌜ Ready (now table) (now values) ⌝ }
+    requires { ⌜ Begins (now table) from ⌝ }
+    requires { ⌜ clause .0 ≤ from + 1 ⌝ }
+    ensures { λ r. ⌜ answer r ≡ firstClause (ruleAt (now (table .entry)) (now (values .entry)) rule) (clause .0) (clausesFrom (now (table .entry)) (now (values .entry)) from) ⌝ }
 {
-    Asked {
-        fit: rules::nothing(),
-        clause: 0,
+    let mut k = clause.0;
+    let mut i = from;
+    while i < table.len() {
+        let asked = rules::asks(table, values, rule, i);
+        if let Fit::Asks(step) = asked {
+            return Answer::Asks(Asked {
+                clause: ClauseNumber(k),
+                step,
+            });
+        }
+        k += 1;
+        i = clause::next_clause(table, i);
     }
+    Answer::Nothing
 }
 
-// What was found stays unless clause k has a lower rule.
-fn lower(best: Asked, fit: Fit, clause: u16) -> Asked
-    ensures { λ r. ⌜ askedAs r ≡ better (askedAs best) clause (fitAs fit) ⌝ }
+// The first pair that rule 7 or 8 fits. No pair of a clause that is not live does.
+fn first_pair(table: &[i16], values: &[u16; Literal::VARIABLES], rule: PairRule) -> Answer
+    requires { ⌜ Ready (now table) (now values) ⌝ }
+    ensures { λ r. ⌜ answer r ≡ firstPair (pairRule rule) 1 (clausesFrom (now (table .entry)) (now (values .entry)) 0) ⌝ }
 {
-    let found = best.fit;
-    if fit.rule == 0 {
-        return best;
-    }
-    if found.rule == 0 {
-        return Asked { fit, clause };
-    }
-    if fit.rule < found.rule {
-        return Asked { fit, clause };
-    }
-    best
-}
-
-// The lowest rule over all clauses, the first clause among equals.
-fn best_fit(table: &[i16], state: State) -> Asked
-    requires { ⌜ Ready (now table) (state .values) ⌝ }
-    ensures { λ r. ⌜ askedAs r ≡ bestFrom none 1 (clausesAs (now (table .entry)) (state .values)) ⌝ }
-{
-    let mut best = not_asked();
-    let mut clause: u16 = 1;
-    let mut from = 0;
-    while from < table.len() {
-        best = lower(
-            best,
-            rules::fit_of(rules::look_at(table, state, from)),
-            clause,
-        );
-        clause += 1;
-        from = rules::next_clause(table, from);
-    }
-    best
-}
-
-// The first clause from `from` on, which has number `clause`, that rule 7, or else rule 8, fits with the clause at g.
-fn partner_fit(table: &[i16], state: State, rule: u16, g: usize, from: usize, clause: u16) -> Asked
-    requires { ⌜ Ready (now table) (state .values) ⌝ }
-    requires { ⌜ g ≤ length (now table) ⌝ }
-    requires { ⌜ Later (now table) from clause ⌝ }
-    ensures { λ r. ⌜ askedAs r ≡ cond (aliveBy (clauseAt (now (table .entry)) (state .values) g)) (partnerOf rule (clauseAt (now (table .entry)) (state .values) g) clause (clausesFrom (now (table .entry)) (state .values) from)) none ⌝ }
-{
-    let counts = rules::counts_at(table, state, g);
-    if !rules::alive(rules::meeting_at(table, state, counts, g)) {
-        return not_asked();
-    }
-    let mut k = clause;
-    let mut h = from;
-    while h < table.len() {
-        let m = rules::meeting_at(table, state, counts, h);
-        if rules::alive(m) {
-            if rules::meets(rule, m) {
-                return Asked {
-                    fit: rules::pair_step(table, state, rule, g, h),
-                    clause: k,
-                };
+    let mut k: u16 = 1;
+    let mut g = 0;
+    while g < table.len() {
+        let next = clause::next_clause(table, g);
+        if clause::live(table, values, g) {
+            let found = first_clause(table, values, Rule::Pair(rule, g), next, ClauseNumber(k + 1));
+            if let Answer::Asks(_) = found {
+                return found;
             }
         }
         k += 1;
-        h = rules::next_clause(table, h);
+        g = next;
     }
-    not_asked()
+    Answer::Nothing
 }
 
-// The first pair that rule 7, or else rule 8, fits.
-fn pair_fit(table: &[i16], state: State, rule: u16) -> Asked
-    requires { ⌜ Ready (now table) (state .values) ⌝ }
-    ensures { λ r. ⌜ askedAs r ≡ pairOf rule 1 (clausesAs (now (table .entry)) (state .values)) ⌝ }
+// What a lower rule asks, or else one of rules 1 to 6 of the first clause that it fits.
+fn else_clause(lower: Answer, table: &[i16], values: &[u16; Literal::VARIABLES], rule: Rule) -> Answer
+    requires { ⌜ Ready (now table) (now values) ⌝ }
+    ensures { λ r. ⌜ answer r ≡ orElse (answer lower) (firstClause (ruleAt (now (table .entry)) (now (values .entry)) rule) 1 (clausesFrom (now (table .entry)) (now (values .entry)) 0)) ⌝ }
 {
-    let mut clause: u16 = 1;
-    let mut from = 0;
-    while from < table.len() {
-        let next = rules::next_clause(table, from);
-        let a = partner_fit(table, state, rule, from, next, clause + 1);
-        let fit = a.fit;
-        if fit.rule != 0 {
-            return a;
-        }
-        clause += 1;
-        from = next;
+    match lower {
+        Answer::Nothing => first_clause(table, values, rule, 0, ClauseNumber(1)),
+        Answer::Asks(_) => lower,
     }
-    not_asked()
 }
 
-// Settling ----------------------------------------------------------------------------------------------------------
-
-// The step that document 01 picks; its rule is 0 where none fits.
-pub fn ask(table: &[i16], state: State) -> Asked
-    requires { ⌜ Ready (now table) (state .values) ⌝ }
-    ensures { λ r. ⌜ Option·map (λ b. b .asked) (askedAs r) ≡ step (clauses (now (table .entry))) (stateOf (state .values)) ⌝ }
+// What a lower rule asks, or else rule 7 or 8 of the first pair that it fits.
+fn else_pair(lower: Answer, table: &[i16], values: &[u16; Literal::VARIABLES], rule: PairRule) -> Answer
+    requires { ⌜ Ready (now table) (now values) ⌝ }
+    ensures { λ r. ⌜ answer r ≡ orElse (answer lower) (firstPair (pairRule rule) 1 (clausesFrom (now (table .entry)) (now (values .entry)) 0)) ⌝ }
 {
-    let one = best_fit(table, state);
-    let first = one.fit;
-    if first.rule != 0 {
-        return one;
+    match lower {
+        Answer::Nothing => first_pair(table, values, rule),
+        Answer::Asks(_) => lower,
     }
-    let seven = pair_fit(table, state, 7);
-    let second = seven.fit;
-    if second.rule != 0 {
-        return seven;
-    }
-    pair_fit(table, state, 8)
+}
+
+// The step that document 01 picks: the lowest rule that fits.
+pub fn ask(table: &[i16], values: &[u16; Literal::VARIABLES]) -> Answer
+    requires { ⌜ Ready (now table) (now values) ⌝ }
+    ensures { λ r. ⌜ answer r ≡ step (clauses (now (table .entry))) (stateOf (now (values .entry))) ⌝ }
+{
+    let one = first_clause(table, values, Rule::One, 0, ClauseNumber(1));
+    let two = else_clause(one, table, values, Rule::Two);
+    let three = else_clause(two, table, values, Rule::Three);
+    let four = else_clause(three, table, values, Rule::Four);
+    let five = else_clause(four, table, values, Rule::Five);
+    let six = else_clause(five, table, values, Rule::Six);
+    let seven = else_pair(six, table, values, PairRule::Seven);
+    else_pair(seven, table, values, PairRule::Eight)
 }
 
 // Settling from a state to its end.
@@ -148,26 +123,26 @@ pub fn propagate(table: &[i16], n: usize, state: State) -> Settled
     requires { ⌜ Ready (now table) (state .values) ⌝ }
     requires { ⌜ Within n (clauses (now table)) ⌝ }
     requires { ⌜ WellFormed n (stateOf (state .values)) ⌝ }
-    requires { ⌜ n ≤ 256 ⌝ }
-    ensures says { λ r. ⌜ settledAs r ≡ settle n (clauses (now (table .entry))) (stateOf (state .values)) ⌝ }
+    requires { ⌜ n ≤ maxVariables ⌝ }
+    ensures says { λ r. ⌜ settled r ≡ settle n (clauses (now (table .entry))) (stateOf (state .values)) ⌝ }
     ensures range { λ r. ⌜ InRange (r .state .values) ⌝ }
 {
     let mut s = state;
     loop {
-        let a = ask(table, s);
-        let fit = a.fit;
-        if fit.rule == 0 {
+        let answer = ask(table, &s.values);
+        let Answer::Asks(asked) = answer else {
             return Settled {
                 dead: false,
                 state: s,
             };
-        }
-        if fit.rule == 1 {
+        };
+        let asks = asked.step;
+        let Step::Becomes(x, t) = asks else {
             return Settled {
                 dead: true,
                 state: s,
             };
-        }
-        s = state::assign(s, Literal(fit.x), Literal(fit.t));
+        };
+        s = state::assign(s, x, t);
     }
 }

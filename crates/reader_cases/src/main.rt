@@ -61,11 +61,7 @@ fn walk(strip: &[u8]) {
                 refused(why);
                 return;
             }
-            Command::Command {
-                mark,
-                operand,
-                next,
-            } => {
+            Command::Command(mark, operand, next) => {
                 found(mark, operand, at);
                 turn = turn_after(turn, mark);
                 at = next;

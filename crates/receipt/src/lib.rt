@@ -177,6 +177,12 @@ impl Indexing {
     }
 }
 
+// What Index stores of a group: the index of its first element, of its 0 if it is empty, and its number of entries.
+pub struct Head {
+    pub start: usize,
+    pub entries: usize,
+}
+
 // Add: the new used length.
 pub enum Adding {
     Added(usize),

@@ -1,8 +1,1 @@
-pub mod Appending
-pub mod Digits
 pub mod Lines
-pub mod Entries
-pub mod Answers
-pub mod Reports
-pub mod Input
-pub mod Examples

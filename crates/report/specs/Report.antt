@@ -1,47 +1,54 @@
 -- What the layout program prints for a strip: "the outcome, the splits, the choice and the path".
 use mathlib.Core.List.{List, [], _∷_, _++_, map}
 use Prim.Native.Nat.{ℕ}
-use lib.IntN.{ℤ}
+use lib.IntN.{ℤ, pos}
+use lib.ListN.{replicate, take}
+use Rattle.literal.specs.Literal.{maxVariables}
+use Rattle.receipt.specs.declared.Outcome.{Outcome}
+use Rattle.receipt.specs.declared.Outcome.the-variants.{LaidOut, NoLayout, Stopped}
 use Rattle.receipt.specs.declared.Refusal.{Refusal}
 use Rattle.receipt.specs.declared.Searching.{Searching}
-use Rattle.receipt.specs.declared.Searching.the-variants.{LaidOut, NoLayout, Stopped, Refused}
+use Rattle.receipt.specs.declared.Searching.the-variants.{Ended, Refused}
 use Rattle.receipt.specs.Receipt.{numberOf}
-use Rattle.theory.specs.Calls.{searchAnswer, windowRoom}
-use Rattle.theory.specs.Search.{search, planOf, trailOf}
-use Rattle.theory.specs.Strip.{Reading, goes, stops, readStrip}
-use Rattle.report.specs.Text.{codes, decimal, signed, line}
+use Rattle.theory.specs.Calls.{solveVariables, solveCall}
+use Rattle.text.specs.Text.{codes, decimal, signed, line}
 
 -- "allows 1,000,000 splits"
 abbrev pub allowance : ℕ
 allowance = 1_000_000
 
--- "`refused`, number, place, with single spaces"
-abbrev pub refusedText : Refusal → List ℕ
-refusedText f = line (codes "refused") (decimal (numberOf (f .fault)) ∷ decimal (f .place) ∷ [])
+abbrev pub outcomeWords : Outcome → List ℕ
+outcomeWords LaidOut = codes "laid out"
+outcomeWords NoLayout = codes "no layout"
+outcomeWords Stopped = codes "stopped"
 
 abbrev pub countText : ℕ → List ℕ
 countText k = line (codes "count") (decimal k ∷ [])
 
-abbrev pub planText : List ℕ → List ℕ
-planText plan = line (codes "plan") (map decimal plan)
+-- the choice and the path
+abbrev pub listsText : List ℕ → List ℤ → List ℕ
+listsText plan trail = line (codes "plan") (map decimal plan) ++ line (codes "trail") (map signed trail)
 
-abbrev pub trailText : List ℤ → List ℕ
-trailText trail = line (codes "trail") (map signed trail)
+-- "No layout and stopped print the first two lines"
+abbrev pub listsOf : Outcome → List ℕ → List ℤ → List ℕ
+listsOf LaidOut plan trail = listsText plan trail
+listsOf NoLayout plan trail = []
+listsOf Stopped plan trail = []
 
--- "No layout and stopped print the first two lines; anything else one line"
-unfoldable pub searchText : Searching → List ℕ → List ℤ → List ℕ
-searchText (LaidOut k) plan trail = line (codes "laid out") [] ++ (countText k ++ (planText plan ++ trailText trail))
-searchText (NoLayout k) plan trail = line (codes "no layout") [] ++ countText k
-searchText (Stopped k) plan trail = line (codes "stopped") [] ++ countText k
+unfoldable pub endedText : Outcome → ℕ → List ℕ → List ℤ → List ℕ
+endedText o k plan trail = line (outcomeWords o) [] ++ (countText k ++ listsOf o plan trail)
+
+-- "anything else one line, `refused`, number, place, with single spaces"
+abbrev pub refusedText : Refusal → List ℕ
+refusedText f = line (codes "refused") (decimal (numberOf (f .fault)) ∷ decimal (f .place) ∷ [])
+
+abbrev pub searchText : Searching → List ℕ → List ℤ → List ℕ
+searchText (Ended o k) plan trail = endedText o k plan trail
 searchText (Refused f) plan trail = refusedText f
 
-abbrev pub readText : Reading → List ℕ
-readText (stops f) = refusedText f
-readText (goes r) =
-    let n = r .variables in
-    let found = search n (r .table) allowance in
-    searchText (searchAnswer (found .count) (found .outcome)) (planOf n (found .outcome)) (trailOf n (found .outcome))
-
--- the bytes printed: the reading has room for every strip within the limits
+-- the bytes printed: a strip is solved with lists of the program's own, of which the first n are printed
 unfoldable pub reportOf : List ℕ → List ℕ
-reportOf s = readText (readStrip s windowRoom)
+reportOf s =
+    let c = solveCall s allowance (replicate maxVariables 0) (replicate maxVariables (pos 0)) in
+    let n = solveVariables s in
+    searchText (c .answer) (take n (c .plan)) (take n (c .trail))

@@ -1,63 +1,32 @@
 // What the layout program prints for a strip, as bytes.
+// Each function but the last appends to the bytes that stand before `at`, and answers where what it appended ends.
 ghost use mathlib.Core.Path.{_≡_};
-ghost use mathlib.Core.List.{[], _∷_};
+ghost use mathlib.Core.List.{[]};
 ghost use Prim.Native.Nat.{_+_, _*_, _≤_};
-ghost use lib.ListN.{length, take};
+ghost use lib.ListN.{length};
+ghost use Rattle.general.specs.Appending.{Appended};
 ghost use Rattle.io.specs.Counts.{Counts};
-ghost use Rattle.report.specs.Appending.{Appended};
-ghost use Rattle.report.specs.Text.{decimal, signed, spaced};
-ghost use Rattle.report.specs.Report.{refusedText, countText, planText, trailText, searchText, reportOf};
-use receipt::Checked;
+ghost use Rattle.theory.specs.Calls.{over};
+ghost use Rattle.text.specs.Text.{line};
+ghost use Rattle.report.specs.Report.{outcomeWords, refusedText, countText, listsText, endedText, searchText, reportOf};
+use literal::Literal;
+use receipt::Outcome;
 use receipt::Refusal;
 use receipt::Searching;
 
 // "allows 1,000,000 splits"
 const ALLOWANCE: u32 = 1000000;
 
-// Each function below appends to the bytes that stand before `at`, and answers where what it appended ends.
-
-fn put_bytes(out: &mut [u8], at: usize, bytes: &[u8]) -> usize
-    requires { ⌜ at + length (now bytes) ≤ length (now out) ⌝ }
-    ensures { λ r. ⌜ Appended (now (out .entry)) at (now (bytes .entry)) (now (out .exit)) r ⌝ }
+fn put_outcome(out: &mut [u8], at: usize, outcome: Outcome) -> usize
+    requires { ⌜ at + 10 ≤ length (now out) ⌝ }
+    ensures { λ r. ⌜ Appended (now (out .entry)) at (line (outcomeWords outcome) []) (now (out .exit)) r ⌝ }
+    ensures { λ r. ⌜ r ≤ at + 10 ⌝ }
 {
-    for i in 0..bytes.len() {
-        out[at + i] = bytes[i];
+    match outcome {
+        Outcome::LaidOut => text::put_bytes(out, at, b"laid out\n"),
+        Outcome::NoLayout => text::put_bytes(out, at, b"no layout\n"),
+        Outcome::Stopped => text::put_bytes(out, at, b"stopped\n"),
     }
-    at + bytes.len()
-}
-
-fn put_digits(out: &mut [u8], at: usize, value: u64) -> usize
-    requires { ⌜ at + 20 ≤ length (now out) ⌝ }
-    ensures { λ r. ⌜ Appended (now (out .entry)) at (decimal value) (now (out .exit)) r ⌝ }
-    ensures { λ r. ⌜ r ≤ at + 20 ⌝ }
-{
-    let mut text = [0u8; 20];
-    let k = io::decimal(value, &mut text);
-    put_bytes(out, at, &text[..k])
-}
-
-// A number, after a space.
-fn put_number(out: &mut [u8], at: usize, value: u64) -> usize
-    requires { ⌜ at + 21 ≤ length (now out) ⌝ }
-    ensures { λ r. ⌜ Appended (now (out .entry)) at (spaced (decimal value ∷ [])) (now (out .exit)) r ⌝ }
-    ensures { λ r. ⌜ r ≤ at + 21 ⌝ }
-{
-    let next = put_bytes(out, at, b" ");
-    put_digits(out, next, value)
-}
-
-// An entry with its sign, after a space.
-fn put_entry(out: &mut [u8], at: usize, entry: i16) -> usize
-    requires { ⌜ at + 22 ≤ length (now out) ⌝ }
-    ensures { λ r. ⌜ Appended (now (out .entry)) at (spaced (signed entry ∷ [])) (now (out .exit)) r ⌝ }
-    ensures { λ r. ⌜ r ≤ at + 7 ⌝ }
-{
-    let value = literal::size(entry) as u64;
-    if entry < 0 {
-        let next = put_bytes(out, at, b" -");
-        return put_digits(out, next, value);
-    }
-    put_number(out, at, value)
 }
 
 fn put_count(out: &mut [u8], at: usize, count: u32) -> usize
@@ -65,92 +34,68 @@ fn put_count(out: &mut [u8], at: usize, count: u32) -> usize
     ensures { λ r. ⌜ Appended (now (out .entry)) at (countText count) (now (out .exit)) r ⌝ }
     ensures { λ r. ⌜ r ≤ at + 27 ⌝ }
 {
-    let word = put_bytes(out, at, b"count");
-    let number = put_number(out, word, count as u64);
-    put_bytes(out, number, b"\n")
+    let word = text::put_bytes(out, at, b"count");
+    let number = text::put_number(out, word, count as u64);
+    text::put_bytes(out, number, b"\n")
 }
 
-fn put_plan(out: &mut [u8], at: usize, plan: &[u8]) -> usize
-    requires { ⌜ at + 4 * length (now plan) + 22 ≤ length (now out) ⌝ }
-    ensures { λ r. ⌜ Appended (now (out .entry)) at (planText (now (plan .entry))) (now (out .exit)) r ⌝ }
-    ensures { λ r. ⌜ r ≤ at + 4 * length (now (plan .entry)) + 5 ⌝ }
+// The choice and the path, of a layout.
+fn put_lists(out: &mut [u8], at: usize, plan: &[u8], trail: &[i16]) -> usize
+    requires { ⌜ at + 4 * length (now plan) + 7 * length (now trail) + 50 ≤ length (now out) ⌝ }
+    ensures { λ r. ⌜ Appended (now (out .entry)) at (listsText (now (plan .entry)) (now (trail .entry))) (now (out .exit)) r ⌝ }
 {
-    let mut next = put_bytes(out, at, b"plan");
-    for i in 0..plan.len() {
-        next = put_number(out, next, plan[i] as u64);
-    }
-    put_bytes(out, next, b"\n")
+    let first = text::put_bytes(out, at, b"plan");
+    let choice = text::put_choices(out, first, plan);
+    let second = text::put_bytes(out, choice, b"\ntrail");
+    let path = text::put_entries(out, second, trail);
+    text::put_bytes(out, path, b"\n")
 }
 
-fn put_trail(out: &mut [u8], at: usize, trail: &[i16]) -> usize
-    requires { ⌜ at + 7 * length (now trail) + 20 ≤ length (now out) ⌝ }
-    ensures { λ r. ⌜ Appended (now (out .entry)) at (trailText (now (trail .entry))) (now (out .exit)) r ⌝ }
-    ensures { λ r. ⌜ r ≤ at + 7 * length (now (trail .entry)) + 6 ⌝ }
+fn put_ended(out: &mut [u8], outcome: Outcome, count: u32, plan: &[u8], trail: &[i16]) -> usize
+    requires { ⌜ 4 * length (now plan) + 7 * length (now trail) + 100 ≤ length (now out) ⌝ }
+    ensures { λ r. ⌜ Appended (now (out .entry)) 0 (endedText outcome count (now (plan .entry)) (now (trail .entry))) (now (out .exit)) r ⌝ }
 {
-    let mut next = put_bytes(out, at, b"trail");
-    for i in 0..trail.len() {
-        next = put_entry(out, next, trail[i]);
+    let word = put_outcome(out, 0, outcome);
+    let splits = put_count(out, word, count);
+    match outcome {
+        Outcome::LaidOut => put_lists(out, splits, plan, trail),
+        Outcome::NoLayout => splits,
+        Outcome::Stopped => splits,
     }
-    put_bytes(out, next, b"\n")
 }
 
-fn put_refusal(out: &mut [u8], at: usize, refusal: Refusal) -> usize
-    requires { ⌜ at + 50 ≤ length (now out) ⌝ }
-    ensures { λ r. ⌜ Appended (now (out .entry)) at (refusedText refusal) (now (out .exit)) r ⌝ }
-    ensures { λ r. ⌜ r ≤ at + 50 ⌝ }
+fn put_refusal(out: &mut [u8], refusal: Refusal) -> usize
+    requires { ⌜ 50 ≤ length (now out) ⌝ }
+    ensures { λ r. ⌜ Appended (now (out .entry)) 0 (refusedText refusal) (now (out .exit)) r ⌝ }
 {
     let fault = refusal.fault;
     let number = fault.number() as u64;
     let place = refusal.place as u64;
-    let word = put_bytes(out, at, b"refused");
-    let first = put_number(out, word, number);
-    let second = put_number(out, first, place);
-    put_bytes(out, second, b"\n")
+    let word = text::put_bytes(out, 0, b"refused");
+    let first = text::put_number(out, word, number);
+    let second = text::put_number(out, first, place);
+    text::put_bytes(out, second, b"\n")
 }
 
-fn put_search(out: &mut [u8], at: usize, found: Searching, plan: &[u8], trail: &[i16]) -> usize
-    requires { ⌜ at + 4 * length (now plan) + 7 * length (now trail) + 100 ≤ length (now out) ⌝ }
-    ensures { λ r. ⌜ Appended (now (out .entry)) at (searchText found (now (plan .entry)) (now (trail .entry))) (now (out .exit)) r ⌝ }
-    ensures { λ r. ⌜ r ≤ at + 4 * length (now (plan .entry)) + 7 * length (now (trail .entry)) + 100 ⌝ }
+fn put_search(out: &mut [u8], found: Searching, plan: &[u8], trail: &[i16]) -> usize
+    requires { ⌜ 4 * length (now plan) + 7 * length (now trail) + 100 ≤ length (now out) ⌝ }
+    ensures { λ r. ⌜ Appended (now (out .entry)) 0 (searchText found (now (plan .entry)) (now (trail .entry))) (now (out .exit)) r ⌝ }
 {
     match found {
-        Searching::LaidOut(count) => {
-            let outcome = put_bytes(out, at, b"laid out\n");
-            let splits = put_count(out, outcome, count);
-            let choice = put_plan(out, splits, plan);
-            put_trail(out, choice, trail)
-        }
-        Searching::NoLayout(count) => {
-            let outcome = put_bytes(out, at, b"no layout\n");
-            put_count(out, outcome, count)
-        }
-        Searching::Stopped(count) => {
-            let outcome = put_bytes(out, at, b"stopped\n");
-            put_count(out, outcome, count)
-        }
-        Searching::Refused(refusal) => put_refusal(out, at, refusal),
+        Searching::Ended { outcome, count } => put_ended(out, outcome, count, plan, trail),
+        Searching::Refused(refusal) => put_refusal(out, refusal),
     }
 }
 
-// The strip is read into a table of its own, and searched. 4,096 bytes are enough: an element of the plan takes at most a space and three digits,
-// one of the trail a space, a sign and five digits.
+// 4,096 bytes are enough: an element of the plan takes at most a space and three digits, one of the trail a space, a sign and five digits.
 pub fn report(strip: &[u8], out: &mut [u8; 4096]) -> usize
-    ensures text { λ r. ⌜ take r (now (out .exit)) ≡ reportOf (now (strip .entry)) ⌝ }
+    ensures text { λ r. ⌜ now (out .exit) ≡ over r (reportOf (now (strip .entry))) (now (out .entry)) ⌝ }
     ensures count { λ r. ⌜ Counts r (now (out .exit)) ⌝ }
+    ensures length { λ r. ⌜ r ≡ length (reportOf (now (strip .entry))) ⌝ }
 {
-    let decoded = strip::decode(strip, 2560);
-    let outcome = decoded.outcome;
-    match outcome {
-        Checked::Refused(refusal) => {
-            return put_refusal(out, 0, refusal);
-        }
-        Checked::Passed => {}
-    }
-    let n = decoded.variables;
-    let used = decoded.used;
-    let cells = decoded.cells;
-    let mut plan = [0u8; 256];
-    let mut trail = [0i16; 256];
-    let found = search::search(&cells[..used], n, ALLOWANCE, &mut plan, &mut trail);
-    put_search(out, 0, found, &plan[..n], &trail[..n])
+    let mut plan = [0u8; Literal::MAX_VARIABLES];
+    let mut trail = [0i16; Literal::MAX_VARIABLES];
+    let solved = solve::solve(strip, ALLOWANCE, &mut plan, &mut trail);
+    let n = solved.variables;
+    put_search(out, solved.answer, &plan[..n], &trail[..n])
 }

@@ -1,4 +1,1 @@
-pub mod Look
-pub mod Pairs
-pub mod Pass
-pub mod Code
+pub mod Rules

@@ -1,398 +1,250 @@
-// What one clause asks by rules 1 to 6, and two clauses by rules 7 and 8, as they stand in a state.
+// What the rules of document 01 ask: rules 1 to 6 of one clause as it stands, rules 7 and 8 of two.
 ghost use mathlib.Core.Path.{_≡_};
-ghost use mathlib.Core.Option.{none, some, Option·map};
-ghost use Prim.Native.Nat.{ℕ, _+_, _≤_, _<_};
-ghost use lib.IntN.{pos};
-ghost use lib.ListN.{length, getD, drop};
-ghost use Rattle.general.specs.Booleans.{bit};
-ghost use Rattle.general.specs.Search.{find};
-ghost use Rattle.literal.specs.Literal.{codeOf, literalAt, literalOf, opposite};
 ghost use Rattle.theory.specs.Formula.{Clause};
-ghost use Rattle.theory.specs.State.{value};
-ghost use Rattle.theory.specs.Rules.{deadEnd, stands};
-ghost use Rattle.state.specs.State.{stateOf};
-ghost use Rattle.rules.specs.Look.{lookOf, fitOf, tieBy, falseBy, beside, manyOpen};
-ghost use Rattle.rules.specs.Pairs.{firstTwo};
-ghost use Rattle.rules.specs.Pass.{sees, meetingOf, isAlive, meetsBy, pairFit};
-ghost use Rattle.rules.specs.Code.{Ready, groupLength, clauseAt, openAt, lookAs, fitAs, meetingAs, CountsOf};
+ghost use Rattle.theory.specs.Rules.{tie, becomesFalse, rule1, rule3, rule5, rule6};
+ghost use Rattle.clause.specs.Reading.{Ready, clauseAt, CountsOf};
+ghost use Rattle.clause.specs.Finding.{found};
+ghost use Rattle.rules.specs.Rules.{fit, falseWhere, paired, pairStep, pairRule, ruleAt};
+use clause::Found;
+use clause::Next;
+use clause::Test;
 use literal::Literal;
-use state::State;
+use theory::Step;
 
-// How often each literal stands in a clause, by its code.
-pub struct Counts {
-    pub of: [u16; 514],
+// Rules 7 and 8 look at two clauses.
+pub enum PairRule {
+    Seven,
+    Eight,
 }
 
-// What one look at a clause as it stands tells; a literal is 0 where there is none.
-pub struct Look {
-    pub trues: u16,
-    pub opens: u16,
-    pub first: u16,
-    pub apart: u16,
-    pub repeated: u16,
-    pub complementary: u16,
+// A rule that looks at one clause: rules 1 to 6, and rules 7 and 8 where the index of the earlier clause is given.
+pub enum Rule {
+    One,
+    Two,
+    Three,
+    Four,
+    Five,
+    Six,
+    Pair(PairRule, usize),
 }
 
-// The rule that fits, 0 where none does, and the step that it asks: x becomes t, or a dead end by rule 1.
-pub struct Fit {
-    pub rule: u16,
-    pub x: u16,
-    pub t: u16,
+// Whether a rule fits, and what it asks.
+pub enum Fit {
+    Nothing,
+    Asks(Step),
 }
 
-// How a clause meets one whose literals are counted: the literals that are true, that stand, that stand in both, and whose opposite stands in the other.
-pub struct Meeting {
-    pub trues: u16,
-    pub stands: u16,
-    pub commons: u16,
-    pub crosses: u16,
-}
-
-// Reading a table ---------------------------------------------------------------------------------------------------
-
-// What element i of the table stands for.
-pub fn standing_at(table: &[i16], values: &[u16; 257], i: usize) -> u16
-    requires { ⌜ Ready (now table) (now values) ⌝ }
-    requires { ⌜ i < length (now table) ⌝ }
-    ensures says { λ r. ⌜ r ≡ codeOf (value (stateOf (now (values .entry))) (literalOf (getD (now (table .entry)) i (pos 0)))) ⌝ }
-    ensures range { λ r. ⌜ r < 514 ⌝ }
+// The literal that was found becomes false.
+fn becomes_false(x: Found) -> Fit
+    ensures { λ r. ⌜ fit r ≡ becomesFalse (found x) ⌝ }
 {
-    state::value_at(values, literal::literal_at(table, i)).0
-}
-
-// The index after the 0 that closes the clause at `from`.
-pub fn next_clause(table: &[i16], from: usize) -> usize
-    requires { ⌜ from ≤ length (now table) ⌝ }
-    ensures { λ r. ⌜ r ≡ from + groupLength (drop from (now (table .entry))) ⌝ }
-{
-    for i in from..table.len() {
-        if literal::size_at(table, i) == 0 {
-            return i + 1;
-        }
-    }
-    table.len()
-}
-
-// Rules 1 to 6: one look at each clause -----------------------------------------------------------------------------
-
-pub fn counts_at(table: &[i16], state: State, from: usize) -> Counts
-    requires { ⌜ Ready (now table) (state .values) ⌝ }
-    requires { ⌜ from ≤ length (now table) ⌝ }
-    ensures { λ r. ⌜ CountsOf (r .of) (clauseAt (now (table .entry)) (state .values) from) ⌝ }
-{
-    let mut counts = Counts { of: [0u16; 514] };
-    for i in from..table.len() {
-        if literal::size_at(table, i) == 0 {
-            return counts;
-        }
-        let v = standing_at(table, &state.values, i) as usize;
-        if v != 1 {
-            counts.of[v] += 1;
-        }
-    }
-    counts
-}
-
-// The look with one more literal v that stands: whether it stands again, and whether its opposite does.
-fn seen(look: Look, v: u16, again: bool, opposed: bool) -> Look
-    requires { ⌜ look .trues + look .opens < 65535 ⌝ }
-    requires { ⌜ (v ≡ 1 → ⊥) ⌝ }
-    ensures { λ r. ⌜ lookAs r ≡ sees (lookAs look) (literalAt v) again opposed ⌝ }
-{
-    let mut next = look;
-    if v == Literal::TRUE {
-        next.trues = look.trues + 1;
-        return next;
-    }
-    next.opens = look.opens + 1;
-    if look.first < 2 {
-        next.first = v;
-    } else if look.apart < 2 {
-        if v / 2 != look.first / 2 {
-            next.apart = v;
-        }
-    }
-    if look.repeated < 2 {
-        if again {
-            next.repeated = v;
-        }
-    }
-    if look.complementary < 2 {
-        if opposed {
-            next.complementary = v;
-        }
-    }
-    next
-}
-
-pub fn look_at(table: &[i16], state: State, from: usize) -> Look
-    requires { ⌜ Ready (now table) (state .values) ⌝ }
-    requires { ⌜ from ≤ length (now table) ⌝ }
-    ensures { λ r. ⌜ lookAs r ≡ lookOf (clauseAt (now (table .entry)) (state .values) from) ⌝ }
-{
-    let counts = counts_at(table, state, from);
-    let mut look = Look {
-        trues: 0,
-        opens: 0,
-        first: 0,
-        apart: 0,
-        repeated: 0,
-        complementary: 0,
-    };
-    for i in from..table.len() {
-        if literal::size_at(table, i) == 0 {
-            return look;
-        }
-        let v = standing_at(table, &state.values, i);
-        if v != Literal::FALSE {
-            let o = Literal(v).opposite().0 as usize;
-            let w = v as usize;
-            look = seen(look, v, 2 <= counts.of[w], 0 < counts.of[o]);
-        }
-    }
-    look
-}
-
-pub fn nothing() -> Fit
-    ensures { λ r. ⌜ fitAs r ≡ none ⌝ }
-{
-    Fit {
-        rule: 0,
-        x: 0,
-        t: 0,
-    }
-}
-
-fn dead_end() -> Fit
-    ensures { λ r. ⌜ fitAs r ≡ some (record { rule = 1; step = deadEnd }) ⌝ }
-{
-    Fit {
-        rule: 1,
-        x: 0,
-        t: 0,
+    match x {
+        Found::Nothing => Fit::Nothing,
+        Found::At(l) => Fit::Asks(Step::Becomes(l, Literal::FALSE)),
     }
 }
 
 // Exactly one of x and y is true: the higher becomes the opposite of the lower.
-fn tied(rule: u16, x: u16, y: u16) -> Fit
-    requires { ⌜ 1 < rule ⌝ }
-    ensures { λ r. ⌜ fitAs r ≡ some (tieBy rule (literalAt x) (literalAt y)) ⌝ }
+fn tie(x: Literal, y: Literal) -> Step
+    ensures { λ r. ⌜ r ≡ tie x y ⌝ }
 {
-    if x / 2 < y / 2 {
-        Fit {
-            rule,
-            x: y,
-            t: Literal(x).opposite().0,
-        }
+    if x.variable().0 < y.variable().0 {
+        Step::Becomes(y, x.opposite())
     } else {
-        Fit {
-            rule,
-            x,
-            t: Literal(y).opposite().0,
-        }
+        Step::Becomes(x, y.opposite())
     }
 }
 
-// The first literal of another variable than the complementary one.
-pub fn other(look: Look) -> u16
-    ensures { λ r. ⌜ openAt r ≡ beside (literalAt (look .complementary)) (openAt (look .first)) (openAt (look .apart)) ⌝ }
+// One clause --------------------------------------------------------------------------------------------------------
+
+// 1. Two true entries, or none true and none open: dead end.
+fn rule_1(table: &[i16], values: &[u16; Literal::VARIABLES], from: usize) -> Fit
+    requires { ⌜ Ready (now table) (now values) ⌝ }
+    ensures { λ r. ⌜ fit r ≡ rule1 (clauseAt (now (table .entry)) (now (values .entry)) from) ⌝ }
 {
-    if look.first < 2 {
-        return look.apart;
+    if 2 <= clause::times_at(table, values, from, Literal::TRUE) {
+        return Fit::Asks(Step::DeadEnd);
     }
-    if look.first / 2 != look.complementary / 2 {
-        look.first
-    } else {
-        look.apart
+    let first = clause::next_literal(table, values, from);
+    match first {
+        Next::Closed => Fit::Asks(Step::DeadEnd),
+        Next::Stands(_, _) => Fit::Nothing,
     }
 }
 
-// Rules 4 to 6, with none true and at least two open.
-fn fit_open(look: Look) -> Fit
-    ensures { λ r. ⌜ fitAs r ≡ manyOpen (lookAs look) (lookAs look .repeated) (lookAs look .complementary) ⌝ }
+// 3. None true, one open: it becomes true.
+fn rule_3(table: &[i16], values: &[u16; Literal::VARIABLES], from: usize) -> Fit
+    requires { ⌜ Ready (now table) (now values) ⌝ }
+    ensures { λ r. ⌜ fit r ≡ rule3 (clauseAt (now (table .entry)) (now (values .entry)) from) ⌝ }
 {
-    if 1 < look.repeated {
-        return Fit {
-            rule: 4,
-            x: look.repeated,
-            t: Literal::FALSE,
-        };
-    }
-    if 1 < look.complementary {
-        let x = other(look);
-        if 1 < x {
-            return Fit {
-                rule: 5,
-                x,
-                t: Literal::FALSE,
-            };
-        }
-        return nothing();
-    }
-    if look.opens == 2 {
-        if 1 < look.first {
-            if 1 < look.apart {
-                return tied(6, look.first, look.apart);
-            }
-        }
-    }
-    nothing()
-}
-
-pub fn fit_of(look: Look) -> Fit
-    ensures { λ r. ⌜ fitAs r ≡ fitOf (lookAs look) ⌝ }
-{
-    if 2 <= look.trues {
-        return dead_end();
-    }
-    if look.trues == 1 {
-        if 1 < look.first {
-            return Fit {
-                rule: 2,
-                x: look.first,
-                t: Literal::FALSE,
-            };
-        }
-        return nothing();
-    }
-    if look.opens == 0 {
-        return dead_end();
-    }
-    if look.opens == 1 {
-        if 1 < look.first {
-            return Fit {
-                rule: 3,
-                x: look.first,
-                t: Literal::TRUE,
-            };
-        }
-        return nothing();
-    }
-    fit_open(look)
-}
-
-// Rules 7 and 8: the clause g is counted once, and each later clause h looked at once ----------------------------------
-
-fn one_if(b: bool) -> u16
-    ensures { λ r. ⌜ r ≡ bit b ⌝ }
-{
-    if b { 1 } else { 0 }
-}
-
-pub fn meeting_at(table: &[i16], state: State, g: Counts, from: usize) -> Meeting
-    requires { ⌜ Ready (now table) (state .values) ⌝ }
-    requires { ⌜ from ≤ length (now table) ⌝ }
-    ensures { λ r. ⌜ ((c : Clause) → CountsOf (g .of) c → meetingAs r ≡ meetingOf c (clauseAt (now (table .entry)) (state .values) from)) ⌝ }
-{
-    let mut m = Meeting {
-        trues: 0,
-        stands: 0,
-        commons: 0,
-        crosses: 0,
+    let first = clause::next_literal(table, values, from);
+    let Next::Stands(x, second) = first else {
+        return Fit::Nothing;
     };
-    for i in from..table.len() {
-        if literal::size_at(table, i) == 0 {
-            return m;
+    let rest = clause::next_literal(table, values, second);
+    let Next::Closed = rest else {
+        return Fit::Nothing;
+    };
+    if x.is_open() {
+        Fit::Asks(Step::Becomes(x, Literal::TRUE))
+    } else {
+        Fit::Nothing
+    }
+}
+
+// Rules 2 and 4, and the end of 5: where so many are true, the first literal that passes becomes false.
+fn false_where(
+    table: &[i16],
+    values: &[u16; Literal::VARIABLES],
+    from: usize,
+    trues: u16,
+    test: Test,
+) -> Fit
+    requires { ⌜ Ready (now table) (now values) ⌝ }
+    ensures { λ r. ⌜ fit r ≡ falseWhere trues test (clauseAt (now (table .entry)) (now (values .entry)) from) ⌝ }
+{
+    if clause::times_at(table, values, from, Literal::TRUE) != trues {
+        return Fit::Nothing;
+    }
+    let counts = clause::counts_at(table, values, from);
+    becomes_false(clause::first_that(table, values, from, &counts, test))
+}
+
+// 5. None true, an entry and its opposite stand: the first entry of a placement other than the first such one becomes false.
+fn rule_5(table: &[i16], values: &[u16; Literal::VARIABLES], from: usize) -> Fit
+    requires { ⌜ Ready (now table) (now values) ⌝ }
+    ensures { λ r. ⌜ fit r ≡ rule5 (clauseAt (now (table .entry)) (now (values .entry)) from) ⌝ }
+{
+    let counts = clause::counts_at(table, values, from);
+    let complementary = clause::first_that(table, values, from, &counts, Test::Opposed);
+    match complementary {
+        Found::Nothing => Fit::Nothing,
+        Found::At(x) => false_where(table, values, from, 0, Test::Apart(x)),
+    }
+}
+
+// 6. None true, two open entries of different placements and nothing else: tie the higher placement to the lower.
+fn rule_6(table: &[i16], values: &[u16; Literal::VARIABLES], from: usize) -> Fit
+    requires { ⌜ Ready (now table) (now values) ⌝ }
+    ensures { λ r. ⌜ fit r ≡ rule6 (clauseAt (now (table .entry)) (now (values .entry)) from) ⌝ }
+{
+    let first = clause::next_literal(table, values, from);
+    let Next::Stands(x, second) = first else {
+        return Fit::Nothing;
+    };
+    let then = clause::next_literal(table, values, second);
+    let Next::Stands(y, third) = then else {
+        return Fit::Nothing;
+    };
+    let rest = clause::next_literal(table, values, third);
+    let Next::Closed = rest else {
+        return Fit::Nothing;
+    };
+    if x.is_open() && y.is_open() && clause::differ(x, y) {
+        Fit::Asks(tie(x, y))
+    } else {
+        Fit::Nothing
+    }
+}
+
+// Two clauses -------------------------------------------------------------------------------------------------------
+
+// The first literal of the clause at g that passes and has a partner: another in it, of another variable, whose opposite is counted.
+fn first_paired(
+    table: &[i16],
+    values: &[u16; Literal::VARIABLES],
+    g: usize,
+    counts: &[u16; Literal::CODES],
+    test: Test,
+) -> Found
+    requires { ⌜ Ready (now table) (now values) ⌝ }
+    ensures { λ r. ⌜ ((c : Clause) → CountsOf (now (counts .entry)) c → found r ≡ paired test (clauseAt (now (table .entry)) (now (values .entry)) g) c) ⌝ }
+{
+    let mut i = g;
+    loop {
+        let next = clause::next_literal(table, values, i);
+        let Next::Stands(x, after) = next else {
+            return Found::Nothing;
+        };
+        if clause::passes(test, counts, x) {
+            let partner = clause::first_that(table, values, g, counts, Test::Partner(x));
+            if let Found::At(_) = partner {
+                return Found::At(x);
+            }
         }
-        let v = standing_at(table, &state.values, i);
-        if v != Literal::FALSE {
-            let w = v as usize;
-            let o = Literal(v).opposite().0 as usize;
-            m = Meeting {
-                trues: m.trues + one_if(v == Literal::TRUE),
-                stands: m.stands + 1,
-                commons: m.commons + one_if(0 < g.of[w]),
-                crosses: m.crosses + one_if(0 < g.of[o]),
+        i = after;
+    }
+}
+
+// 7. Groups G and H hold a common entry a, and b in G has its opposite in H: a becomes false.
+// 8. a and b stand in G, their opposites in H: tie the first such pair in G.
+fn pair_step(
+    table: &[i16],
+    values: &[u16; Literal::VARIABLES],
+    rule: PairRule,
+    g: usize,
+    counts: &[u16; Literal::CODES],
+) -> Fit
+    requires { ⌜ Ready (now table) (now values) ⌝ }
+    ensures { λ r. ⌜ ((c : Clause) → CountsOf (now (counts .entry)) c → fit r ≡ pairStep rule (clauseAt (now (table .entry)) (now (values .entry)) g) c) ⌝ }
+{
+    match rule {
+        PairRule::Seven => becomes_false(first_paired(table, values, g, counts, Test::Common)),
+        PairRule::Eight => {
+            let first = first_paired(table, values, g, counts, Test::Opposed);
+            let Found::At(x) = first else {
+                return Fit::Nothing;
             };
-        }
-    }
-    m
-}
-
-pub fn alive(m: Meeting) -> bool
-    ensures { λ r. ⌜ r ≡ isAlive (meetingAs m) ⌝ }
-{
-    if m.trues == 0 { 3 <= m.stands } else { false }
-}
-
-// Whether rule 7, or else rule 8, fits live clauses that meet so.
-pub fn meets(rule: u16, m: Meeting) -> bool
-    ensures { λ r. ⌜ r ≡ meetsBy rule (meetingAs m) ⌝ }
-{
-    if rule == 7 {
-        if 1 <= m.commons {
-            1 <= m.crosses
-        } else {
-            false
-        }
-    } else {
-        2 <= m.crosses
-    }
-}
-
-// Rule 7: the first literal of the clause at `from` that stands in h.
-fn first_common(table: &[i16], state: State, from: usize, h: Counts) -> Fit
-    requires { ⌜ Ready (now table) (state .values) ⌝ }
-    requires { ⌜ from ≤ length (now table) ⌝ }
-    ensures { λ r. ⌜ ((c : Clause) → CountsOf (h .of) c → fitAs r ≡ Option·map (falseBy 7) (find (λ x. stands x c) (clauseAt (now (table .entry)) (state .values) from))) ⌝ }
-{
-    for i in from..table.len() {
-        if literal::size_at(table, i) == 0 {
-            return nothing();
-        }
-        let v = standing_at(table, &state.values, i);
-        if v != Literal::FALSE {
-            let w = v as usize;
-            if 0 < h.of[w] {
-                return Fit {
-                    rule: 7,
-                    x: v,
-                    t: Literal::FALSE,
-                };
+            let second = clause::first_that(table, values, g, counts, Test::Partner(x));
+            match second {
+                Found::Nothing => Fit::Nothing,
+                Found::At(y) => Fit::Asks(tie(x, y)),
             }
         }
     }
-    nothing()
 }
 
-// Rule 8: the first two literals of the clause at `from` whose opposites stand in h.
-fn first_crossed(table: &[i16], state: State, from: usize, h: Counts) -> Fit
-    requires { ⌜ Ready (now table) (state .values) ⌝ }
-    requires { ⌜ from ≤ length (now table) ⌝ }
-    ensures { λ r. ⌜ ((c : Clause) → CountsOf (h .of) c → fitAs r ≡ Option·map (λ s. record { rule = 8; step = s }) (firstTwo (λ x. stands (opposite x) c) (clauseAt (now (table .entry)) (state .values) from))) ⌝ }
+// Rules 7 and 8 look at live clauses.
+fn pair_rule(
+    table: &[i16],
+    values: &[u16; Literal::VARIABLES],
+    rule: PairRule,
+    g: usize,
+    h: usize,
+) -> Fit
+    requires { ⌜ Ready (now table) (now values) ⌝ }
+    ensures { λ r. ⌜ fit r ≡ pairRule rule (clauseAt (now (table .entry)) (now (values .entry)) g) (clauseAt (now (table .entry)) (now (values .entry)) h) ⌝ }
 {
-    let mut found = false;
-    let mut first: u16 = 0;
-    for i in from..table.len() {
-        if literal::size_at(table, i) == 0 {
-            return nothing();
-        }
-        let v = standing_at(table, &state.values, i);
-        if v != Literal::FALSE {
-            let o = Literal(v).opposite().0 as usize;
-            if 0 < h.of[o] {
-                if found {
-                    return tied(8, first, v);
-                }
-                found = true;
-                first = v;
-            }
+    let counts = clause::counts_at(table, values, h);
+    let asked = pair_step(table, values, rule, g, &counts);
+    let Fit::Asks(_) = asked else {
+        return Fit::Nothing;
+    };
+    if clause::live(table, values, g) {
+        if clause::live(table, values, h) {
+            return asked;
         }
     }
-    nothing()
+    Fit::Nothing
 }
 
-// The step that rule 7, or else rule 8, asks of the clauses at g and h.
-pub fn pair_step(table: &[i16], state: State, rule: u16, g: usize, h: usize) -> Fit
-    requires { ⌜ Ready (now table) (state .values) ⌝ }
-    requires { ⌜ g ≤ length (now table) ⌝ }
-    requires { ⌜ h ≤ length (now table) ⌝ }
-    ensures { λ r. ⌜ fitAs r ≡ pairFit rule (clauseAt (now (table .entry)) (state .values) g) (clauseAt (now (table .entry)) (state .values) h) ⌝ }
+// What a rule asks of the clause at `from`.
+pub fn asks(
+    table: &[i16],
+    values: &[u16; Literal::VARIABLES],
+    rule: Rule,
+    from: usize,
+) -> Fit
+    requires { ⌜ Ready (now table) (now values) ⌝ }
+    ensures { λ r. ⌜ fit r ≡ ruleAt (now (table .entry)) (now (values .entry)) rule (clauseAt (now (table .entry)) (now (values .entry)) from) ⌝ }
 {
-    let counts = counts_at(table, state, h);
-    if rule == 7 {
-        first_common(table, state, g, counts)
-    } else {
-        first_crossed(table, state, g, counts)
+    match rule {
+        Rule::One => rule_1(table, values, from),
+        Rule::Two => false_where(table, values, from, 1, Test::Open),
+        Rule::Three => rule_3(table, values, from),
+        Rule::Four => false_where(table, values, from, 0, Test::Twice),
+        Rule::Five => rule_5(table, values, from),
+        Rule::Six => rule_6(table, values, from),
+        Rule::Pair(pair, g) => pair_rule(table, values, pair, g, from),
     }
 }

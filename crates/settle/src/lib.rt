@@ -1,43 +1,48 @@
 // Settle: what settling knows of each placement of a table.
 ghost use mathlib.Core.Path.{_≡_};
-ghost use Prim.Native.Nat.{_≤_, _<_};
+ghost use Prim.Native.Nat.{_≤_};
 ghost use lib.ListN.{length};
 ghost use Rattle.general.specs.Lists.{upTo};
-ghost use Rattle.literal.specs.Literal.{literalAt};
+ghost use Rattle.literal.specs.Literal.{var, maxVariables};
 ghost use Rattle.theory.specs.Calls.{over, stateEntry, settleCall};
 ghost use Rattle.state.specs.State.{stateOf, InRange};
 ghost use Rattle.settle.specs.Settle.{called};
 use literal::Literal;
+use literal::Variable;
 use receipt::Checked;
 use receipt::Fault;
 use receipt::Refusal;
 use receipt::Settling;
-use state::State;
 
-// 257 taken, -257 left out, +p open, +r or -r tied to r.
+// What Settle writes for a placement that is taken, and for one that is left out.
+pub const TAKEN: i16 = 257;
+
+pub const LEFT_OUT: i16 = -257;
+
+// +p open, +r or -r tied to r.
 fn state_entry(x: Literal) -> i16
-    ensures { λ r. ⌜ r ≡ stateEntry (literalAt (x .0)) ⌝ }
+    requires { ⌜ var x ≤ maxVariables ⌝ }
+    ensures { λ r. ⌜ r ≡ stateEntry x ⌝ }
 {
-    if x.0 == Literal::TRUE {
-        return 257;
+    if x.is_open() {
+        return x.entry();
     }
-    if x.0 == Literal::FALSE {
-        return -257;
+    if x.same(Literal::TRUE) {
+        TAKEN
+    } else {
+        LEFT_OUT
     }
-    x.entry()
 }
 
 // What each placement from 1 to n stands for.
-fn write_state(list: &mut [i16], n: usize, state: State)
+fn write_state(list: &mut [i16], n: usize, values: &[u16; Literal::VARIABLES])
     requires { ⌜ n ≤ length (now list) ⌝ }
-    requires { ⌜ n ≤ 256 ⌝ }
-    requires { ⌜ InRange (state .values) ⌝ }
-    ensures { λ _. ⌜ now (list .exit) ≡ over n (upTo (λ p. stateEntry (stateOf (state .values) p)) n) (now (list .entry)) ⌝ }
+    requires { ⌜ n ≤ maxVariables ⌝ }
+    requires { ⌜ InRange (now values) ⌝ }
+    ensures { λ _. ⌜ now (list .exit) ≡ over n (upTo (λ p. stateEntry (stateOf (now (values .entry)) p)) n) (now (list .entry)) ⌝ }
 {
-    let mut i = 0;
-    while i < n {
-        list[i] = state_entry(Literal(state.values[i + 1]));
-        i += 1;
+    for i in 0..n {
+        list[i] = state_entry(state::root(values, Variable(i as u16 + 1)));
     }
 }
 
@@ -52,16 +57,14 @@ pub fn settle(table: &[i16], n: usize, list: &mut [i16]) -> Settling
         Checked::Passed => {}
     }
     if list.len() < n {
-        return Settling::Refused(Refusal {
-            fault: Fault::StateShort,
-            place: 0,
-        });
+        return Settling::Refused(Refusal::new(Fault::StateShort, 0));
     }
     let settled = propagate::propagate(table, n, state::initial());
     if settled.dead {
         fill::clear_numbers(list, n);
         return Settling::NoLayout;
     }
-    write_state(list, n, settled.state);
+    let state = settled.state;
+    write_state(list, n, &state.values);
     Settling::Settled
 }

@@ -18,7 +18,6 @@ use Rattle.theory.specs.Table.{closes, zeros, nonzeros, endsOpen, unknownFrom, 
 use Rattle.theory.specs.Strip.{readStrip}
 use Rattle.theory.specs.Encoding.{groups, tableOf, entries}
 use Rattle.theory.proofs.Tables.{InRange}
-use Rattle.strip.proofs.Sound.{Allows}
 use Rattle.strip.proofs.Ends.{Answered, answered}
 
 entry-size : (l : Literal) → natAbs (entryOf l) ≡ var l

@@ -1,7 +1,7 @@
 -- How a reading ends: with a strip of the grammar, whose table fits the room, or with a refusal, its place in the strip; and with room for a table at the
 -- limits no strip is refused for want of room.
 use mathlib.Core.Path.{_≡_, refl, ap, sym, subst}
-use mathlib.Core.Bool.{Bool, true, false}
+use mathlib.Core.Bool.{Bool, true, false, cond}
 use mathlib.Core.Logic.{_≢_}
 use mathlib.Core.List.{List, [], _∷_, _++_, append-nil, List·Memᴰ·not-nil}
 use Prim.Native.Nat.{ℕ, zero, suc, _+_, _≤_}
@@ -10,14 +10,14 @@ use native.Mathlib.Omega.{arith}
 use borrow.Author.Tests.{ltb-true, ltb-false}
 use lib.Dec.{ltb}
 use lib.IntN.{ℤ}
-use lib.ListN.{length, drop, length-append, drop-of-length-le}
+use lib.ListN.{length, length-append, drop-of-length-le}
 use Rattle.general.specs.Booleans.{cond-ind}
 use Rattle.literal.specs.Literal.{maxTable}
-use Rattle.receipt.specs.declared.Fault.the-variants.{TableShort}
+use Rattle.receipt.specs.declared.Fault.the-variants.{CutStrip, TableShort}
 use Rattle.receipt.specs.declared.Refusal.{Refusal}
 use Rattle.receipt.specs.declared.Reading.{Reading}
 use Rattle.receipt.specs.declared.Reading.the-variants.{Read, Refused}
-use Rattle.receipt.specs.Receipt.{numberOf}
+use Rattle.receipt.specs.Receipt.{numberOf, refusal}
 use Rattle.receipt.specs.Answers.{readLength}
 use Rattle.theory.specs.declared.Turn.{Turn}
 use Rattle.theory.specs.declared.Turn.the-variants.{Start, After}
@@ -30,7 +30,7 @@ use Rattle.theory.specs.declared.Obeyed.{Obeyed}
 use Rattle.theory.specs.declared.Obeyed.the-variants as obeyed
 use Rattle.theory.specs.Strip.{turnOf, same, progress, obey, Decoding, storing, onward, follow, finish, readFrom, commandAt, maxStrip, readStrip}
 use Rattle.theory.specs.Encoding.{tableOf, entries}
-use Rattle.reader.proofs.Commands.{same-turn, NotShort, Stands, Says, command-says, command-bytes}
+use Rattle.reader.proofs.Commands.{same-turn, NotShort, Says, command-says, command-bytes}
 use Rattle.strip.proofs.Sound.{Sound, begun-sound, elements, with, Left, Keeps, obey-keeps}
 
 module _ (s : List ℕ) (room : ℕ) where
@@ -44,11 +44,13 @@ module _ (s : List ℕ) (room : ℕ) where
   module _ (i : ℕ) (p : Progress) (t : List ℤ) (d : Sound p (length t)) (h : i ≤ length s) (fits : length t ≤ room) where
     finish-ends : length s ≤ i → Ends i p t (finish s room p t)
     unfolding tableOf entries
-    finish-ends l = cond-ind (Ends i p t) _ _ (same (p .turn) After)
-        (λ b. (
+    finish-ends l = go (same (p .turn) After) refl
+      where
+        go : (b : Bool) → same (p .turn) After ≡ b → Ended i p t (cond b (Read (p .variables) (length t)) (Refused (refusal CutStrip (length s)))) (cond b t [])
+        go true e = (
           refl,
           fits,
-          subst (λ (u : Turn). Left s i u p t (p .variables) t) (sym (same-turn (p .turn) After b)) (record {
+          subst (λ (u : Turn). Left s i u p t (p .variables) t) (sym (same-turn (p .turn) After e)) (record {
             clause = [];
             items = [];
             strip = λ y. drop-of-length-le s l;
@@ -56,8 +58,8 @@ module _ (s : List ℕ) (room : ℕ) where
             variables = λ q. refl;
             allows = record { variables = d .variables; clauses = omega (arith, d .clauses); literals = omega (arith, d .literals); known = λ c l m. absurd (List·Memᴰ·not-nil m) };
           }),
-        ))
-        (λ b. (refl, le-refl _, λ w z. omega arith))
+        )
+        go false e = (refl, le-refl _, λ w z. omega arith)
 
     -- after a command, which the strip from next on goes on from
     module _ (k next : ℕ) (ih : (q : Progress) (t′ : List ℤ) → Sound q (length t′) → length t′ ≤ room → Ends next q t′ (readFrom s room k next q t′)) where

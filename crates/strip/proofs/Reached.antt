@@ -1,8 +1,7 @@
 -- The reading loop: reading on from where it stands, with the numbers that it keeps and the table in the first cells, reads the whole strip.
-use mathlib.Core.Path.{_≡_, refl, ap, sym, _∙_}
-use mathlib.Core.Logic.{_≢_}
-use mathlib.Core.Bool.{true, false}
-use mathlib.Core.List.{List, [], _∷_}
+use mathlib.Core.Path.{_≡_, refl, _∙_}
+use mathlib.Core.Bool.{Bool, true, false, cond}
+use mathlib.Core.List.{List, []}
 use Prim.Native.Nat.{ℕ, zero, suc, _+_, _<_, _≤_}
 use native.Mathlib.Nat.{add-zero}
 use native.Mathlib.Numerals.{add-one}
@@ -15,8 +14,10 @@ use Rattle.literal.specs.Literal.{maxTable}
 use Rattle.receipt.specs.declared.Fault.{Fault}
 use Rattle.receipt.specs.declared.Fault.the-variants.{CutStrip, TableShort}
 use Rattle.receipt.specs.declared.Refusal.{Refusal}
-use Rattle.receipt.specs.declared.Reading.the-variants.{Read}
+use Rattle.receipt.specs.declared.Reading.{Reading}
+use Rattle.receipt.specs.declared.Reading.the-variants.{Read, Refused}
 use Rattle.receipt.specs.Receipt.{refusal}
+use Rattle.receipt.specs.Answers.{readLength}
 use Rattle.theory.specs.declared.Mark.{Mark}
 use Rattle.theory.specs.declared.Turn.the-variants.{Start, After}
 use Rattle.theory.specs.declared.Command.the-variants as command
@@ -24,9 +25,9 @@ use Rattle.theory.specs.declared.Progress.{Progress}
 use Rattle.theory.specs.declared.Stored.{Stored}
 use Rattle.theory.specs.declared.Stored.the-variants.{Nothing, Element}
 use Rattle.theory.specs.declared.Obeyed.the-variants as obeyed
-use Rattle.theory.specs.Strip.{same, progress, commandAt, obey, Decoding, notRead, storing, onward, follow, readFrom, maxStrip, readStrip}
+use Rattle.theory.specs.Strip.{same, progress, commandAt, obey, Decoding, notRead, ending, storing, onward, follow, readFrom, maxStrip, readStrip}
 use Rattle.reader.proofs.Commands.{Stands, command-stands, command-bytes}
-use Rattle.strip.proofs.Sound.{pending, Sound, begun-sound, elements, obey-keeps}
+use Rattle.strip.proofs.Sound.{Sound, begun-sound, elements, obey-keeps}
 
 module _ (s : List ℕ) (room : ℕ) where
   -- the loop's invariant
@@ -51,14 +52,13 @@ module _ {s : List ℕ} {room at used : ℕ} {p : Progress} {cells : List ℤ} (
   used-length = length-take-le used cells in-cells
 
   -- the end of the strip
-  pub cut : length s ≤ at → same (p .turn) After ≡ false → notRead (refusal CutStrip (length s)) ≡ readStrip s room
+  pub ended : length s ≤ at → (r : Reading) → r ≡ ending (length s) p used → _≡_ {A = Decoding} (record { reading = r; table = take (readLength r) cells }) (readStrip s room)
   unfolding readFrom
-  cut l e = rw (le-ltb at (length s) l, e) at (a .rest)
-
-  pub whole : length s ≤ at → same (p .turn) After ≡ true →
-      _≡_ {A = Decoding} (record { reading = Read (p .variables) used; table = take used cells }) (readStrip s room)
-  unfolding readFrom
-  whole l e = rw (le-ltb at (length s) l, e, used-length) at (a .rest)
+  ended l r e = rw (e, in-use (same (p .turn) After)) (rw (le-ltb at (length s) l, used-length) at (a .rest))
+    where
+      in-use : (b : Bool) → take (readLength (cond b (Read (p .variables) used) (Refused (refusal CutStrip (length s))))) cells ≡ cond b (take used cells) []
+      in-use true = refl
+      in-use false = refl
 
   followed : at < length s → follow s room (readFrom s room (a .fuel)) at p (take used cells) (commandAt s at (p .turn)) ≡ readStrip s room
   unfolding readFrom

@@ -13,7 +13,7 @@ use lib.ListN.{length, drop}
 use Rattle.general.specs.Booleans.{true-not-false, cond-ind}
 use Rattle.literal.specs.declared.Literal.{Literal}
 use Rattle.literal.specs.declared.Literal.the-variants.{Pos, Neg}
-use Rattle.literal.specs.Literal.{var, entryOf, maxVariables, maxClauses, maxLiterals, maxTable}
+use Rattle.literal.specs.Literal.{var, entryOf, maxVariables, maxClauses, maxLiterals}
 use Rattle.receipt.specs.Receipt.{numberOf}
 use Rattle.theory.specs.declared.Mark.{Mark}
 use Rattle.theory.specs.declared.Mark.the-variants.{Placements, Chapter, Opens, Taken, LeftOut, Closes, Ends}

@@ -20,3 +20,4 @@ pub mod Demands
 pub mod Paths
 pub mod Filings
 pub mod SettledList
+pub mod Heads

@@ -158,7 +158,7 @@ accepted-within n t e = record { low = λ c l mc ml. range c l mc ml .0; high = 
 -- a table after a table ----------------------------------------------------------------------------------------------
 
 -- after an entry that is closed there is a group
-first-clause : (t : List ℤ) → endsOpen true t ≡ false → (c : Clause) × (f : Formula) × (clauses t ≡ c ∷ f)
+pub first-clause : (t : List ℤ) → endsOpen true t ≡ false → (c : Clause) × (f : Formula) × (clauses t ≡ c ∷ f)
 unfolding endsOpen clauses
 first-clause [] h = absurd (true-not-false refl h)
 first-clause (posℤ zero ∷ t) h = ([], clauses t, refl)

@@ -9,7 +9,7 @@ use Rattle.general.specs.Lists.{upTo}
 use Rattle.literal.specs.declared.Literal.{Literal}
 use Rattle.literal.specs.declared.Literal.the-variants.{Pos, Neg}
 use Rattle.literal.specs.Literal.{maxVariables, maxClauses, maxLiterals, maxTable}
-use Rattle.receipt.specs.declared.Fault.the-variants.{TooManyClauses, TooManyLiterals, UnknownVariable, PlanShort, TrailShort, ReceiptShort, UsedLengthWrong, StateShort, TableShort}
+use Rattle.receipt.specs.declared.Fault.the-variants.{TooManyClauses, TooManyLiterals, UnknownVariable, PlanShort, TrailShort, HeadsShort, ReceiptShort, UsedLengthWrong, StateShort, TableShort}
 use Rattle.receipt.specs.declared.Refusal.{Refusal}
 use Rattle.receipt.specs.declared.Checked.{Checked}
 use Rattle.receipt.specs.declared.Checked.the-variants.{Passed, Refused}
@@ -17,6 +17,9 @@ use Rattle.receipt.specs.declared.Settling.{Settling}
 use Rattle.receipt.specs.declared.Settling.the-variants as settling
 use Rattle.receipt.specs.declared.Searching.{Searching}
 use Rattle.receipt.specs.declared.Searching.the-variants as searching
+use Rattle.receipt.specs.declared.Indexing.{Indexing}
+use Rattle.receipt.specs.declared.Indexing.the-variants as indexing
+use Rattle.receipt.specs.declared.Head.{Head}
 use Rattle.receipt.specs.declared.Adding.{Adding}
 use Rattle.receipt.specs.declared.Adding.the-variants as adding
 use Rattle.receipt.specs.declared.Reading.{Reading}
@@ -25,6 +28,7 @@ use Rattle.receipt.specs.declared.Receipt.{Receipt}
 use Rattle.receipt.specs.Receipt.{numberOf, refusal}
 use Rattle.receipt.specs.Answers.{searchingReceipt, readVariables}
 use Rattle.theory.specs.Formula.{Choice, clauses}
+use Rattle.theory.specs.Heads.{headsOf}
 use Rattle.theory.specs.SettledList.{decided}
 use Rattle.theory.specs.State.{State, initial}
 use Rattle.theory.specs.Table.{zeros, nonzeros, refused, check}
@@ -91,6 +95,25 @@ searchChecked Passed n t b plan trail =
 -- "Tables: 1, 2, 3, 4, 5, then 6, 7 (search)"
 unfoldable pub searchCall : ℕ → List ℤ → ℕ → List ℕ → List ℤ → SearchCall
 searchCall n t b plan trail = searchChecked (check n t) n t b plan trail
+
+-- Index -----------------------------------------------------------------------------------------------------------
+
+pub record IndexCall : Type 0 where
+  pub answer : Indexing
+  pub heads : List Head
+
+abbrev pub indexRefused : Refusal → List Head → IndexCall
+indexRefused r hs = record { answer = indexing.Refused r; heads = hs }
+
+abbrev pub indexChecked : Checked → List ℤ → List Head → IndexCall
+indexChecked (Refused r) t hs = indexRefused r hs
+indexChecked Passed t hs =
+    cond (ltb (length hs) (zeros t)) (indexRefused (refusal HeadsShort 0) hs)
+    (record { answer = indexing.Indexed; heads = over (zeros t) (headsOf t) hs })
+
+-- "Tables: 1, 2, 3, 4, 5, then .. 8 (index)"
+unfoldable pub indexCall : ℕ → List ℤ → List Head → IndexCall
+indexCall n t hs = indexChecked (check n t) t hs
 
 -- Add -------------------------------------------------------------------------------------------------------------
 

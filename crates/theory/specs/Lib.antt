@@ -9,6 +9,7 @@ pub mod Bound
 pub mod Search
 pub mod Strip
 pub mod Encoding
+pub mod Heads
 pub mod Calls
 pub mod SettledList
 pub mod Filings

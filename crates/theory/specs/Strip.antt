@@ -135,6 +135,10 @@ pub record Decoding : Type 0 where
 abbrev pub notRead : Refusal → Decoding
 notRead f = record { reading = reading.Refused f; table = [] }
 
+-- at the end of a strip of n bytes, with u elements read: "Missing 5A: place is the strip's length"
+abbrev pub ending : ℕ → Progress → ℕ → Reading
+ending n p u = cond (same (p .turn) After) (reading.Read (p .variables) u) (reading.Refused (refusal CutStrip n))
+
 module _ (s : List ℕ) (room : ℕ) where
   -- 23: "no room for the next element"; i is the command's place
   abbrev pub storing : (List ℤ → Decoding) → ℕ → List ℤ → Stored → Decoding
@@ -149,9 +153,8 @@ module _ (s : List ℕ) (room : ℕ) where
   follow go i p t (command.Command m v next) = onward (go next) i t (obey p v m)
   follow go i p t (command.Refused f) = notRead f
 
-  -- at the end of the strip: "Missing 5A: place is the strip's length"
   abbrev pub finish : Progress → List ℤ → Decoding
-  finish p t = cond (same (p .turn) After) (record { reading = reading.Read (p .variables) (length t); table = t }) (notRead (refusal CutStrip (length s)))
+  finish p t = record { reading = ending (length s) p (length t); table = cond (same (p .turn) After) t [] }
 
   -- command by command, with fuel for k - 1 commands
   unfoldable pub readFrom : ℕ → ℕ → Progress → List ℤ → Decoding

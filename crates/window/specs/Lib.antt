@@ -1,1 +1,1 @@
-pub mod Stamp
+pub mod Window

@@ -1,22 +1,16 @@
-// The drawing window's call, for C: a search of a strip, with a receipt.
+// The window call, for a C program: it lends a strip, an allowance, a plan and a receipt.
 ghost use mathlib.Core.Path.{_≡_};
 ghost use Prim.Native.Nat.{_+_, _≤_};
 ghost use lib.ListN.{length};
-ghost use Rattle.receipt.specs.Receipt.{refusal, searchingReceipt};
-ghost use Rattle.theory.specs.Calls.{over, receiptBytes, runOf, windowRoom, windowCall};
-ghost use Rattle.theory.specs.Strip.{readStrip};
-ghost use Rattle.window.specs.Stamp.{stampAs, put4, ranAs, called};
-use receipt::Checked;
+ghost use Rattle.theory.specs.Calls.{over, receiptLength, receiptBytes, windowCall};
+ghost use Rattle.theory.specs.Strip.{maxStrip};
+ghost use Rattle.window.specs.Window.{put4, called};
+use literal::Literal;
 use receipt::Fault;
-use receipt::Refusal;
-use receipt::Searching;
+use receipt::Receipt;
 
-// The numbers on the receipt.
-pub struct Stamp {
-    pub number: u32,
-    pub place: u32,
-    pub count: u32,
-}
+// "The receipt's first 12 bytes"
+const RECEIPT_LENGTH: usize = 12;
 
 // A number as four bytes, the high one first.
 fn put_number(list: &mut [u8], at: usize, value: u32)
@@ -29,84 +23,29 @@ fn put_number(list: &mut [u8], at: usize, value: u32)
     list[at + 3] = (value % 256) as u8;
 }
 
-fn write_receipt(receipt: &mut [u8], stamp: Stamp)
-    requires { ⌜ 12 ≤ length (now receipt) ⌝ }
-    ensures { λ _. ⌜ now (receipt .exit) ≡ over 12 (receiptBytes (stampAs stamp)) (now (receipt .entry)) ⌝ }
+fn write_receipt(list: &mut [u8], receipt: Receipt)
+    requires { ⌜ receiptLength ≤ length (now list) ⌝ }
+    requires { ⌜ receipt .place ≤ maxStrip ⌝ }
+    ensures { λ _. ⌜ now (list .exit) ≡ over receiptLength (receiptBytes receipt) (now (list .entry)) ⌝ }
 {
-    put_number(receipt, 0, stamp.number);
-    put_number(receipt, 4, stamp.place);
-    put_number(receipt, 8, stamp.count);
+    put_number(list, 0, receipt.number);
+    put_number(list, 4, receipt.place as u32);
+    put_number(list, 8, receipt.count);
 }
 
-fn refused(why: Refusal) -> Stamp
-    requires { ⌜ why .place ≤ 16384 ⌝ }
-    ensures { λ r. ⌜ stampAs r ≡ refusal why ⌝ }
-{
-    let fault = why.fault;
-    Stamp {
-        number: fault.number(),
-        place: why.place as u32,
-        count: 0,
-    }
-}
-
-fn answered(searching: Searching) -> Stamp
-    requires { ⌜ searchingReceipt searching .place ≤ 16384 ⌝ }
-    ensures { λ r. ⌜ stampAs r ≡ searchingReceipt searching ⌝ }
-{
-    match searching {
-        Searching::LaidOut(count) => Stamp {
-            number: 0,
-            place: 0,
-            count,
-        },
-        Searching::NoLayout(count) => Stamp {
-            number: 10,
-            place: 0,
-            count,
-        },
-        Searching::Stopped(count) => Stamp {
-            number: 11,
-            place: 0,
-            count,
-        },
-        Searching::Refused(why) => refused(why),
-    }
-}
-
-// The strip is read into a table of the window's own, and searched with a trail that nobody sees.
-fn run(strip: &[u8], allowance: u32, plan: &mut [u8]) -> Stamp
-    ensures { λ r. ⌜ ranAs r (now (plan .exit)) ≡ runOf (readStrip (now (strip .entry)) windowRoom) allowance (now (plan .entry)) ⌝ }
-{
-    let decoded = strip::decode(strip, 2560);
-    let outcome = decoded.outcome;
-    match outcome {
-        Checked::Refused(why) => {
-            return refused(why);
-        }
-        Checked::Passed => {}
-    }
-    let n = decoded.variables;
-    if plan.len() < n {
-        return refused(Refusal {
-            fault: Fault::PlanShort,
-            place: 0,
-        });
-    }
-    let used = decoded.used;
-    let cells = decoded.cells;
-    let mut trail = [0i16; 256];
-    answered(search::search(&cells[..used], n, allowance, plan, &mut trail))
-}
-
+// The trail is the window's own: nobody sees it.
 #[no_mangle]
 pub extern "C" fn window(strip: &[u8], allowance: u32, plan: &mut [u8], receipt: &mut [u8]) -> u32
     ensures { λ r. ⌜ called r (now (plan .exit)) (now (receipt .exit)) ≡ windowCall (now (strip .entry)) allowance (now (plan .entry)) (now (receipt .entry)) ⌝ }
 {
-    if receipt.len() < 12 {
-        return 9;
+    if receipt.len() < RECEIPT_LENGTH {
+        let fault = Fault::ReceiptShort;
+        return fault.number();
     }
-    let stamp = run(strip, allowance, plan);
-    write_receipt(receipt, stamp);
-    stamp.number
+    let mut trail = [0i16; Literal::MAX_VARIABLES];
+    let solved = solve::solve(strip, allowance, plan, &mut trail);
+    let answer = solved.answer;
+    let written = answer.receipt();
+    write_receipt(receipt, written);
+    written.number
 }

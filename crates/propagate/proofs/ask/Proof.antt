@@ -1,30 +1,41 @@
--- `ask` meets its contract, by a law for each return. Assumes nothing.
+-- `ask` meets its contract: one rule after the other.
 use borrow.Author.Needs.{needs}
-use Rattle.propagate.proofs.Answers.{step-own, step-seven, step-eight}
+use Rattle.general.specs.Options.{orElse-assoc}
+use Rattle.theory.specs.Propagation.{ask}
 use Rattle.propagate.proofs.ask.Statement.{statement}
 use Rattle.propagate.proofs.ask.Tie as tie
 
 returns : tie.Need-returns
+unfolding ask
 returns c =
-    let b = c .before .before .before in
-    let a = b .before .args in
-    step-own (a .table .now) (a .state .values) (b .best-fit .result) (b .best-fit .ensures) (c .if1 .taken)
-
-returns-2 : tie.Need-returns-2
-returns-2 c =
-    let p = c .before .before .before in
-    let b = p .before .before .before .before in
-    let a = b .before .args in
-    step-seven (a .table .now) (a .state .values) (b .best-fit .result) (b .best-fit .ensures) (p .before .if1 .left)
-    (p .pair-fit .result) (p .pair-fit .ensures) (c .if2 .taken)
-
-returns-3 : tie.Need-returns-3
-returns-3 c =
-    let p = c .before .before .before .before in
-    let b = p .before .before .before .before in
-    let a = b .before .args in
-    step-eight (a .table .now) (a .state .values) (b .best-fit .result) (b .best-fit .ensures) (p .before .if1 .left)
-    (p .pair-fit .result) (p .pair-fit .ensures) (c .before .if2 .left) (c .pair-fit2 .result) (c .pair-fit2 .ensures)
+    let seven = c .before in
+    let six = seven .before in
+    let five = six .before in
+    let four = five .before in
+    let three = four .before in
+    let two = three .before in
+    rw (
+      c .else-pair2 .ensures,
+      seven .else-pair .ensures,
+      six .else-clause5 .ensures,
+      five .else-clause4 .ensures,
+      four .else-clause3 .ensures,
+      three .else-clause2 .ensures,
+      two .else-clause .ensures,
+      two .before .first-clause .ensures,
+    )
+    (simp orElse-assoc)
 
 pub ask-spec : {M : Type 1} → statement M
-ask-spec = tie.close (tie.spec (λ c κs. search needs) returns (λ c κs. search needs) returns-2 (λ c κs. search needs) returns-3)
+ask-spec =
+    tie.close
+    (tie.spec
+    (λ c κs. search needs)
+    (λ c κs. search needs)
+    (λ c κs. search needs)
+    (λ c κs. search needs)
+    (λ c κs. search needs)
+    (λ c κs. search needs)
+    (λ c κs. search needs)
+    (λ c κs. search needs)
+    returns)

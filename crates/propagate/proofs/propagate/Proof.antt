@@ -1,10 +1,12 @@
--- `propagate` meets its contract: settling from the state of each turn ends where settling from the first does. Assumes nothing.
-use mathlib.Core.Path.{_≡_, refl, sym, _∙_}
+-- `propagate` meets its contract: settling from the state of each turn ends where settling from the first does.
+use mathlib.Core.Path.{_≡_, refl, _∙_}
+use native.Mathlib.Omega.{arith}
+use borrow.Author.Needs.{needs}
 use Rattle.theory.specs.Formula.{clauses}
 use Rattle.theory.specs.State.{opens, WellFormed}
 use Rattle.theory.specs.Propagation.{settle}
 use Rattle.state.specs.State.{stateOf}
-use Rattle.rules.specs.Code.{Ready}
+use Rattle.clause.specs.Reading.{Ready}
 use Rattle.propagate.proofs.Settling.{Turn, settle-rest, settle-dead, settle-more}
 use Rattle.propagate.proofs.propagate.Statement.{statement}
 use Rattle.propagate.proofs.propagate.Tie as tie
@@ -18,46 +20,29 @@ Inv-loop table n s₀ s =
 abbrev μ-loop : tie.MeasureT-loop
 μ-loop table n s₀ s = opens (stateOf (s .values)) n
 
-loop-holds : tie.Need-loop-holds Inv-loop μ-loop
-loop-holds c = (c .pre .0, c .pre .1 .1 .0, refl)
-
 returns : tie.Need-returns Inv-loop μ-loop
 returns c =
-    let k = c .before .before .before in
-    let l = k .before in
-    let a = l .before .args in
-    (sym (settle-rest (a .n) (clauses (a .table .now)) (stateOf (l .loop .s .values)) (k .ask .result) (k .ask .ensures) (c .if1 .taken)) ∙ l .loop .inv .2, l .loop .inv .0 .range)
+    let k = c .before .before in
+    let l = k .before .before .before in
+    (settle-rest _ _ _ (rw (c .enum-told .given .1) at (k .ask .ensures)) ∙ l .loop .inv .2, l .loop .inv .0 .range)
 
 returns-2 : tie.Need-returns-2 Inv-loop μ-loop
 returns-2 c =
-    let k = c .before .before .before .before .before in
-    let l = k .before in
-    let a = l .before .args in
-    (sym (settle-dead (a .n) (clauses (a .table .now)) (stateOf (l .loop .s .values)) (k .ask .result) (k .ask .ensures) (c .if2 .taken)) ∙ l .loop .inv .2, l .loop .inv .0 .range)
+    let r = c .before .before .before in
+    let k = r .before .before in
+    let l = k .before .before .before in
+    (settle-dead _ _ _ (r .answer .given .0 .0) (rw (r .answer .given .1) at (k .ask .ensures)) (c .enum-told2 .given .1) ∙ l .loop .inv .2, l .loop .inv .0 .range)
 
 -- the step that is asked
-turn : (c : tie.Else2 Inv-loop μ-loop) →
-    let k = c .before .before .before .before .before in
-    let a = k .before .before .args in
-    let f = k .ask .result .fit in
-    Turn (a .n) (clauses (a .table .now)) (stateOf (k .before .loop .s .values)) (f .x) (f .t)
+turn : (c : tie.After-known-told2 Inv-loop μ-loop) →
+    let l = c .before .before .before .before .before .before .before .before .before in
+    let a = l .before .args in
+    Turn (a .n) (clauses (a .table .now)) (stateOf (l .loop .s .values)) (c .before .asks .given .0 .0) (c .before .asks .given .0 .1 .0)
 turn c =
-    let i = c .before .before in
-    let k = i .before .before .before in
-    let p = k .before .before .pre in
-    settle-more _ _ _ (k .ask .result) (k .ask .ensures) (p .1 .0) (k .before .loop .inv .1) (p .1 .1 .1) (i .if1 .left) (c .if2 .left)
-
-loop-less : tie.Need-loop-less Inv-loop μ-loop
-loop-less c = rw (c .assign .ensures .0) (turn (c .before) .fewer)
-
-loop-again : tie.Need-loop-again Inv-loop μ-loop
-loop-again c =
-    let l = c .before .before .before .before .before .before .before in
-    let t = turn (c .before) in (
-      record { readable = l .loop .inv .0 .readable; range = c .assign .ensures .1 },
-      rw (c .assign .ensures .0) (t .well),
-      rw (c .assign .ensures .0) (sym (t .same-end)) ∙ l .loop .inv .2,
-    )
+    let r = c .before .before .before .before in
+    let k = r .before .before in
+    let l = k .before .before .before in
+    settle-more _ _ _ (r .answer .given .0 .0) (rw (r .answer .given .1) at (k .ask .ensures)) (c .before .asks .given .1) (l .before .pre .1 .0) (l .loop .inv .1)
 
 pub propagate-spec : {M : Type 1} → statement M
 propagate-spec =
@@ -65,10 +50,21 @@ propagate-spec =
     (tie.spec
     Inv-loop
     μ-loop
-    loop-holds
-    (λ c κs. c .loop .inv .0)
+    (λ c. (c .pre .0, c .pre .1 .1 .0, refl))
+    (λ c κs. c .before .before .loop .inv .0)
+    (λ c. search needs)
+    (λ c. search needs)
     returns
+    (λ c. search needs)
+    (λ c. search needs)
     returns-2
-    (λ c κs. (turn c .x-below, (turn c .t-below, c .before .before .before .before .before .before .loop .inv .0 .range)))
-    loop-less
-    loop-again)
+    (λ c κs.
+    let l = c .before .before .before .before .before .before .before .before .before in
+    (omega (arith, turn c .x-inside, l .before .pre .1 .1 .1), (omega (arith, turn c .t-inside, l .before .pre .1 .1 .1), l .loop .inv .0 .range)))
+    (λ c. rw (c .assign .ensures .0) (turn (c .before) .fewer))
+    (λ c.
+    let l = c .before .before .before .before .before .before .before .before .before .before in (
+      record { readable = l .loop .inv .0 .readable; range = c .assign .ensures .1 },
+      rw (c .assign .ensures .0) (turn (c .before) .well),
+      rw (c .assign .ensures .0) (turn (c .before) .same-end) ∙ l .loop .inv .2,
+    )))

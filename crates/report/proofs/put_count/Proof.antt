@@ -1,7 +1,7 @@
 -- `put_count` meets its contract.
 use native.Mathlib.Omega.{arith}
 use borrow.Author.Needs.{needs}
-use Rattle.report.specs.Text.{codes}
+use Rattle.text.specs.Text.{codes}
 use Rattle.report.proofs.Lines.{line-appended}
 use Rattle.report.proofs.put_count.Statement.{statement}
 use Rattle.report.proofs.put_count.Tie as tie

@@ -1,8 +1,9 @@
 -- `put_refusal` meets its contract.
 use native.Mathlib.Omega.{arith}
 use borrow.Author.Needs.{needs}
-use Rattle.report.specs.Text.{codes}
-use Rattle.report.proofs.Lines.{words-appended, line-appended}
+use Rattle.text.specs.Text.{codes}
+use Rattle.text.proofs.Words.{words-appended}
+use Rattle.report.proofs.Lines.{line-appended}
 use Rattle.report.proofs.put_refusal.Statement.{statement}
 use Rattle.report.proofs.put_refusal.Tie as tie
 
@@ -12,11 +13,8 @@ returns c =
     let place = newline .before .before .before .before .before in
     let number = place .before .before .before .before in
     let word = number .before .before .before .before in
-    let numbers = words-appended _ _ (number .put-number .ensures .0) (place .put-number2 .ensures .0) in (
-      rw (word .before .before .before .number .ensures) at
-          (line-appended (codes "refused") _ (word .put-bytes .ensures) numbers (newline .put-bytes2 .ensures)),
-      omega arith,
-    )
+    let numbers = words-appended _ _ (number .put-number .ensures .0) (place .put-number2 .ensures .0) in
+    rw (word .before .before .before .number .ensures) at (line-appended (codes "refused") _ (word .put-bytes .ensures) numbers (newline .put-bytes2 .ensures))
 
 pub put-refusal-spec : {M : Type 1} → statement M
 put-refusal-spec =

@@ -1,0 +1,4 @@
+pub mod Walk
+pub mod Counting
+pub mod Clauses
+pub mod Accepted
