@@ -19,13 +19,13 @@ use Rattle.receipt.specs.declared.Reading.the-variants.{Read, Refused}
 use Rattle.receipt.specs.Receipt.{refusal}
 use Rattle.receipt.specs.Answers.{readLength}
 use Rattle.theory.specs.declared.Mark.{Mark}
-use Rattle.theory.specs.declared.Turn.the-variants.{Start, After}
+use Rattle.theory.specs.declared.Turn.the-variants.{After}
 use Rattle.theory.specs.declared.Command.the-variants as command
 use Rattle.theory.specs.declared.Progress.{Progress}
 use Rattle.theory.specs.declared.Stored.{Stored}
 use Rattle.theory.specs.declared.Stored.the-variants.{Nothing, Element}
 use Rattle.theory.specs.declared.Obeyed.the-variants as obeyed
-use Rattle.theory.specs.Strip.{same, progress, commandAt, obey, Decoding, notRead, ending, storing, onward, follow, readFrom, maxStrip, readStrip}
+use Rattle.theory.specs.Strip.{same, nothingRead, commandAt, obey, Decoding, notRead, ending, storing, onward, follow, readFrom, maxStrip, readStrip}
 use Rattle.reader.proofs.Commands.{Stands, command-stands, command-bytes}
 use Rattle.strip.proofs.Sound.{Sound, begun-sound, elements, obey-keeps}
 
@@ -39,7 +39,7 @@ module _ (s : List ℕ) (room : ℕ) where
     pub enough : length s ≤ at + fuel
     pub rest : readFrom s room (suc fuel) at p (take used cells) ≡ readStrip s room
 
-  pub begun : length s ≤ maxStrip → (cells : List ℤ) → length cells ≡ maxTable → Reached 0 0 (progress Start 0 0 0) cells
+  pub begun : length s ≤ maxStrip → (cells : List ℤ) → length cells ≡ maxTable → Reached 0 0 nothingRead cells
   unfolding readStrip
   begun h cells l = record { short = h; sound = begun-sound; long = l; fuel = length s; enough = omega arith; rest = rw (le-ltb maxStrip (length s) h) }
 
@@ -52,7 +52,8 @@ module _ {s : List ℕ} {room at used : ℕ} {p : Progress} {cells : List ℤ} (
   used-length = length-take-le used cells in-cells
 
   -- the end of the strip
-  pub ended : length s ≤ at → (r : Reading) → r ≡ ending (length s) p used → _≡_ {A = Decoding} (record { reading = r; table = take (readLength r) cells }) (readStrip s room)
+  pub ended : length s ≤ at → (r : Reading) → r ≡ ending (length s) p used →
+      _≡_ {A = Decoding} (record { reading = r; table = take (readLength r) cells }) (readStrip s room)
   unfolding readFrom
   ended l r e = rw (e, in-use (same (p .turn) After)) (rw (le-ltb at (length s) l, used-length) at (a .rest))
     where
@@ -93,8 +94,8 @@ module _ {s : List ℕ} {room at used : ℕ} {p : Progress} {cells : List ℤ} {
     sound : Sound q (used + elements e)
     sound =
         let d : Sound p (length (take used cells)) = rw (used-length a) (a .sound) in
-        let k : Sound q (length (take used cells) + elements e) = (rw (← g) at (obey-keeps s at next p (take used cells) d m v (stands .turn) (command-bytes s at stands))) .0 in
-        rw (used-length a) at k
+        let k = rw (← g) at (obey-keeps s at next p (take used cells) d m v (stands .turn) (command-bytes s at stands)) in
+        rw (used-length a) at (k .0)
 
     storing-rest : storing s room (readFrom s room (a .fuel) next q) at (take used cells) e ≡ readStrip s room
     storing-rest = rw (← g) at obeying

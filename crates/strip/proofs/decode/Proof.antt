@@ -36,8 +36,9 @@ returns-2 c =
 -- a command
 commanded : (c : tie.After-found Inv-loop μ-loop) →
     let l = c .before .before .before .before in
+    let a = l .before .before .before .args in
     let m = c .found .given .0 in
-    Commanded (l .before .before .before .args .strip .now) (l .before .before .before .args .room) (l .loop .at) (l .loop .used) (l .loop .progress) (l .loop .cells) (m .0) (m .1 .0) (m .1 .1 .0)
+    Commanded (a .strip .now) (a .room) (l .loop .at) (l .loop .used) (l .loop .progress) (l .loop .cells) (m .0) (m .1 .0) (m .1 .1 .0)
 commanded c =
     let r = c .before .before .before in
     record { reached = r .before .loop .inv; inside = r .loop-test .taken; command = sym (c .found .given .1) ∙ c .before .before .command-from .ensures }
