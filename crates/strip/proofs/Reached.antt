@@ -26,7 +26,7 @@ use Rattle.theory.specs.declared.Stored.{Stored}
 use Rattle.theory.specs.declared.Stored.the-variants.{Nothing, Element}
 use Rattle.theory.specs.declared.Obeyed.the-variants as obeyed
 use Rattle.theory.specs.Strip.{same, nothingRead, commandAt, obey, Decoding, notRead, ending, storing, onward, follow, readFrom, maxStrip, readStrip}
-use Rattle.reader.proofs.Commands.{Stands, command-says, command-bytes}
+use Rattle.reader.proofs.Commands.{Stands, command-stands, command-bytes}
 use Rattle.strip.proofs.Sound.{Sound, begun-sound, elements, obey-keeps}
 
 module _ (s : List ℕ) (room : ℕ) where
@@ -79,7 +79,7 @@ module _ {s : List ℕ} {room at used : ℕ} {p : Progress} {cells : List ℤ} {
   a = c .reached
 
   stands : Stands s at (p .turn) m v next
-  stands = rw (← c .command) at (command-says s at (p .turn))
+  stands = command-stands s at (c .command)
 
   pub further : at < next
   further = omega (arith, stands .further)
