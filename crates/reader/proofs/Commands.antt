@@ -101,6 +101,9 @@ module _ (s : List ℕ) (i : ℕ) where
           (λ b. (refl, λ z. omega arith)))
           (λ a. (refl, λ z. omega arith))
 
+  pub command-stands : {t : Turn} {m : Mark} {v next : ℕ} → command.Command m v next ≡ commandAt s i t → Stands t m v next
+  command-stands {t = t} e = rw (← e) at (command-says t)
+
   next-byte : (j : ℕ) → j < length s → drop j s ≡ getD s j 0 ∷ drop (j + 1) s
   next-byte j h = rw (add-one, ← drop-cons s j 0)
 

@@ -97,5 +97,6 @@ pub fn report(strip: &[u8], out: &mut [u8; 4096]) -> usize
     let mut trail = [0i16; Literal::MAX_VARIABLES];
     let solved = solve::solve(strip, ALLOWANCE, &mut plan, &mut trail);
     let n = solved.variables;
-    put_search(out, solved.answer, &plan[..n], &trail[..n])
+    let answer = solved.answer;
+    put_search(out, answer, &plan[..n], &trail[..n])
 }

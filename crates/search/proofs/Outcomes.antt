@@ -1,19 +1,24 @@
--- The outcome of a walk by its number, which is also the tag that a match looks at.
-use mathlib.Core.Path.{_≡_, refl, sym, _∙_}
+-- An outcome that a match tells by its tag is none of the others.
+use mathlib.Core.Path.{_≡_, refl, ap, sym, _∙_}
 use mathlib.Core.Logic.{_⊎_, ⊎-elim}
+use mathlib.Core.List.{List}
 use Prim.Native.Nat.{ℕ}
 use denote.Enum.Declared.{tagOf, declared}
-use Rattle.search.specs.declared.Outcome as the-outcome
-use Rattle.search.specs.declared.Outcome.the-variants.{LaidOut, NoLayout, Stopped}
-use Rattle.search.specs.Walk.{outcomeOf}
-use Rattle.search.proofs.Outcome.{enum}
+use lib.IntN.{ℤ}
+use Rattle.literal.specs.declared.Literal.{Literal}
+use Rattle.receipt.proofs.Outcome.{enum}
+use Rattle.receipt.specs.declared.Outcome.{Outcome}
+use Rattle.receipt.specs.declared.Outcome.the-variants.{LaidOut, NoLayout, Stopped}
+use Rattle.search.specs.Walk.{noted}
 
-tag-is : (o : the-outcome.Outcome) → tagOf (declared enum) o ≡ outcomeOf o
-tag-is LaidOut = refl
-tag-is NoLayout = refl
-tag-is Stopped = refl
+abbrev tag : Outcome → ℕ
+tag = tagOf (declared enum)
 
 -- neither of two tags
-pub other-outcome : (o : the-outcome.Outcome) (a b k : ℕ) → (tagOf (declared enum) o ≡ a) ⊎ (tagOf (declared enum) o ≡ b) → (a ≡ k → ⊥) → (b ≡ k → ⊥) →
-    outcomeOf o ≡ k → ⊥
-other-outcome o a b k h f g e = ⊎-elim (λ q. f (sym q ∙ tag-is o ∙ e)) (λ q. g (sym q ∙ tag-is o ∙ e)) h
+pub other-outcome : (o v : Outcome) (a b : ℕ) → (tag o ≡ a) ⊎ (tag o ≡ b) → ¬ (a ≡ tag v) → ¬ (b ≡ tag v) → ¬ (o ≡ v)
+other-outcome o v a b h f g e = ⊎-elim (λ q. f (sym q ∙ ap tag e)) (λ q. g (sym q ∙ ap tag e)) h
+
+pub noted-other : (o : Outcome) (d : ℕ) (x : Literal) (t : List ℤ) → ¬ (o ≡ LaidOut) → t ≡ noted o d x t
+noted-other LaidOut d x t h = absurd (h refl)
+noted-other NoLayout d x t h = refl
+noted-other Stopped d x t h = refl

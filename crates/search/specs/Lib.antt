@@ -1,2 +1,3 @@
-pub mod Walk
 pub mod Branch
+pub mod Walk
+pub mod Call

@@ -1,90 +1,72 @@
--- What a walk of the tree asks and answers, and what it leaves in the plan and, from index d on, in the trail.
-use mathlib.Core.Bool.{cond}
-use mathlib.Core.List.{List, _++_, map}
-use Prim.Native.Nat.{ℕ, _+_, _≤_}
-use lib.Dec.{eqb}
+-- What a walk of the tree asks, and what it answers and leaves in the plan and, from index d on, in the trail.
+use mathlib.Core.List.{List, [], _∷_, _++_, map}
+use mathlib.Core.Option.{some}
+use Prim.Native.Nat.{ℕ, suc, _+_, _≤_, _<_}
 use lib.IntN.{ℤ}
 use lib.ListN.{length, take, drop, set}
 use Rattle.general.specs.Booleans.{bit}
-use Rattle.literal.specs.Literal.{Literal, pos, TRUE, FALSE, entryOf}
-use Rattle.receipt.specs.declared.Fault.{Fault}
-use Rattle.receipt.specs.declared.Searching.{Searching}
-use Rattle.receipt.specs.declared.Searching.the-variants as searching
+use Rattle.literal.specs.declared.Literal.{Literal}
+use Rattle.literal.specs.Literal.{var, entryOf, maxVariables}
+use Rattle.receipt.specs.declared.Outcome.{Outcome}
+use Rattle.receipt.specs.declared.Outcome.the-variants.{LaidOut, NoLayout, Stopped}
 use Rattle.theory.specs.Formula.{Choice, clauses, Within}
-use Rattle.theory.specs.State.{assign, opens, WellFormed}
-use Rattle.theory.specs.Tree.{branch, Run, visit, tree, Outcome, laidOut, noLayout, stopped, Result}
-use Rattle.theory.specs.Search.{decide}
-use Rattle.theory.specs.Calls.{over, short, SearchCall}
+use Rattle.theory.specs.State.{opens, WellFormed}
+use Rattle.theory.specs.Tree.{Found, Run, visit, tree, Result}
+use Rattle.theory.specs.Search.{splitOn, decide, treeFrom}
+use Rattle.theory.specs.Calls.{over}
 use Rattle.state.specs.State.{stateOf}
-use Rattle.rules.specs.Code.{Ready}
-use Rattle.search.specs.declared.Outcome as the-outcome
-use Rattle.search.specs.declared.Outcome.the-variants.{LaidOut, NoLayout, Stopped}
-use Rattle.search.specs.declared.Walk as the-walk
+use Rattle.clause.specs.Reading.{Ready}
+use Rattle.search.specs.declared.Walk.{Walk}
 
--- what a walk of the tree asks: a table that may be read, of variables up to n, a state of settling, and room in both lists, in the trail for a path from depth on
-pub record Walkable (t : List ℤ) (n : ℕ) (v : List ℕ) (depth : ℕ) (plan : List ℕ) (trail : List ℤ) : Type 0 where
+-- a table that may be read, of variables up to n, a state of settling, and room in both lists, in the trail for a path from d on
+pub record Walkable (t : List ℤ) (n : ℕ) (v : List ℕ) (d : ℕ) (plan : List ℕ) (trail : List ℤ) : Type 0 where
   pub ready : Ready t v
   pub within : Within n (clauses t)
   pub well : WellFormed n (stateOf v)
-  pub small : n ≤ 256
+  pub small : n ≤ maxVariables
   pub plan-room : n ≤ length plan
   pub trail-room : n ≤ length trail
-  pub deep : depth + opens (stateOf v) n ≤ n
+  pub deep : d + opens (stateOf v) n ≤ n
 
--- the tree from a state, and from a split of it on p, with fuel f
-abbrev pub treeAt : ℕ → ℕ → List ℤ → List ℕ → Run Choice
-treeAt f n t v = tree (decide n (clauses t)) f (stateOf v)
+-- the tree from a state, and from a split of it on p
+abbrev pub treeAt : ℕ → List ℤ → List ℕ → Run Choice
+treeAt n t v = treeFrom n (clauses t) (stateOf v)
 
-abbrev pub splitAt : ℕ → ℕ → List ℤ → List ℕ → ℕ → Run Choice
-splitAt f n t v p = visit (tree (decide n (clauses t)) f) (branch p (assign (pos p) FALSE (stateOf v)) (assign (pos p) TRUE (stateOf v)))
+abbrev pub splitAt : ℕ → List ℤ → List ℕ → ℕ → Run Choice
+splitAt n t v p = visit (tree (decide n (clauses t)) (suc n)) 1 (splitOn n (stateOf v) (some p))
 
 pub record Walked : Type 0 where
-  pub outcome : ℕ
-  pub count : ℕ
+  pub walk : Walk
   pub plan : List ℕ
   pub trail : List ℤ
 
--- the outcomes of code and of the definition, numbered alike
-abbrev pub outcomeOf : the-outcome.Outcome → ℕ
-outcomeOf LaidOut = 0
-outcomeOf NoLayout = 1
-outcomeOf Stopped = 2
+abbrev pub walked : Walk → List ℕ → List ℤ → Walked
+walked w p t = record { walk = w; plan = p; trail = t }
 
-abbrev pub numbered : Outcome Choice → ℕ
-numbered (laidOut a) = 0
-numbered noLayout = 1
-numbered stopped = 2
+-- only a layout is written: the choice, and the path
+abbrev pub planAfter : ℕ → List (Found Choice) → List ℕ → List ℕ
+planAfter n [] p = p
+planAfter n (a ∷ l) p = over n (map bit (a .choice)) p
 
-abbrev pub walkedAs : the-walk.Walk → List ℕ → List ℤ → Walked
-walkedAs r p t = record { outcome = outcomeOf (r .outcome); count = r .count; plan = p; trail = t }
+abbrev pub trailAfter : ℕ → List (Found Choice) → List ℤ → List ℤ
+trailAfter d [] t = t
+trailAfter d (a ∷ l) t = take d t ++ (map entryOf (a .path) ++ drop (d + length (a .path)) t)
 
--- only a layout is written: the choice, and the path from d on
-abbrev pub planAfter : ℕ → Outcome Choice → List ℕ → List ℕ
-planAfter n (laidOut a) p = over n (map bit (a .choice)) p
-planAfter n noLayout p = p
-planAfter n stopped p = p
+abbrev pub walkOf : ℕ → ℕ → Result Choice → List ℕ → List ℤ → Walked
+walkOf n d r p t = walked (record { outcome = r .outcome; count = r .count }) (planAfter n (r .found) p) (trailAfter d (r .found) t)
 
-abbrev pub trailAfter : ℕ → Outcome Choice → List ℤ → List ℤ
-trailAfter d (laidOut a) t = take d t ++ (map entryOf (a .path) ++ drop (d + length (a .path)) t)
-trailAfter d noLayout t = t
-trailAfter d stopped t = t
+-- one side as the split passes it on: the sum of the splits is a number, and the trail has room for the side
+pub record Passable (count splits : ℕ) (x : Literal) (d : ℕ) (t : List ℤ) : Type 0 where
+  pub sum : splits + count < 4294967296
+  pub room : d < length t
+  pub small : var x ≤ maxVariables
+
+-- k splits more
+abbrev pub counted : ℕ → Walk → Walk
+counted k w = record { outcome = w .outcome; count = k + w .count }
 
 -- a side on the path to a layout is written at its depth d; nothing else is
-abbrev pub noted : ℕ → ℕ → Literal → List ℤ → List ℤ
-noted outcome d x t = cond (eqb outcome 0) (set t d (entryOf x)) t
-
-abbrev pub walkOf : ℕ → ℕ → List ℕ → List ℤ → Result Choice → Walked
-walkOf n d p t r = record { outcome = numbered (r .outcome); count = r .count; plan = planAfter n (r .outcome) p; trail = trailAfter d (r .outcome) t }
-
--- how a call answers an outcome, with its count
-abbrev pub answered : the-outcome.Outcome → ℕ → Searching
-answered LaidOut k = searching.LaidOut k
-answered NoLayout k = searching.NoLayout k
-answered Stopped k = searching.Stopped k
-
-abbrev pub refusedFor : Fault → Searching
-refusedFor why = searching.Refused (short why)
-
--- a call of Search: its answer, and the lists after it
-abbrev pub called : Searching → List ℕ → List ℤ → SearchCall
-called r p t = record { answer = r; plan = p; trail = t }
+abbrev pub noted : Outcome → ℕ → Literal → List ℤ → List ℤ
+noted LaidOut d x t = set t d (entryOf x)
+noted NoLayout d x t = t
+noted Stopped d x t = t

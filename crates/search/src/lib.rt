@@ -1,35 +1,38 @@
 // Search: the first layout of a table, by the split tree of document 01.
 ghost use mathlib.Core.Path.{_≡_};
-ghost use Prim.Native.Nat.{ℕ, _≤_, _<_};
+ghost use mathlib.Core.List.{map};
+ghost use mathlib.Core.Option.{some};
+ghost use Prim.Native.Nat.{_≤_};
 ghost use lib.ListN.{length};
 ghost use Rattle.general.specs.Booleans.{bit};
-ghost use Rattle.general.specs.Lists.{upTo};
-ghost use Rattle.literal.specs.Literal.{TRUE, literalAt};
+ghost use Rattle.literal.specs.Literal.{var, maxVariables};
 ghost use Rattle.theory.specs.Formula.{clauses, holds};
-ghost use Rattle.theory.specs.State.{opens};
-ghost use Rattle.theory.specs.Rules.{occurs};
+ghost use Rattle.theory.specs.State.{Open};
 ghost use Rattle.theory.specs.Tree.{limited};
-ghost use Rattle.theory.specs.Search.{onlyConstant, branchVariable};
+ghost use Rattle.theory.specs.Search.{onlyConstant, lowest, branchVariable, choiceOf};
 ghost use Rattle.theory.specs.Calls.{over, searchCall};
 ghost use Rattle.state.specs.State.{stateOf};
-ghost use Rattle.rules.specs.Code.{Ready, clauseAt, lookAs};
-ghost use Rattle.search.specs.Branch.{variableAt, lowered, loweredBy, liveBy, Open};
-ghost use Rattle.search.specs.Walk.{Walkable, treeAt, splitAt, outcomeOf, walkedAs, noted, walkOf, answered, refusedFor, called};
+ghost use Rattle.clause.specs.Reading.{Ready, clauseAt};
+ghost use Rattle.search.specs.Branch.{branchOf, lowerOf};
+ghost use Rattle.search.specs.Walk.{Walkable, treeAt, splitAt, walked, walkOf, Passable, counted, noted};
+ghost use Rattle.search.specs.Call.{called};
+use clause::Next;
 use literal::Literal;
 use literal::Variable;
 use receipt::Checked;
 use receipt::Fault;
+use receipt::Outcome;
 use receipt::Refusal;
 use receipt::Searching;
-use rules::Look;
 use state::State;
 
-pub enum Outcome {
-    LaidOut,
-    NoLayout,
-    Stopped,
+// The variable to split on, if any clause is live.
+pub enum Branch {
+    Nowhere,
+    On(Variable),
 }
 
+// How a walk of the tree ends, and the splits that it makes.
 pub struct Walk {
     pub outcome: Outcome,
     pub count: u32,
@@ -37,88 +40,84 @@ pub struct Walk {
 
 // The branch variable -----------------------------------------------------------------------------------------------
 
-// Whether a clause is live, by its look.
-fn live(look: Look) -> bool
-    ensures { λ r. ⌜ r ≡ liveBy (lookAs look) ⌝ }
+// The lower of what was found and one more variable.
+fn lower(found: Branch, p: Variable) -> Branch
+    ensures { λ r. ⌜ branchOf r ≡ lowerOf (branchOf found) (some (p .0)) ⌝ }
 {
-    if look.trues != 0 {
-        return false;
+    let Branch::On(q) = found else {
+        return Branch::On(p);
+    };
+    if p.0 < q.0 {
+        return Branch::On(p);
     }
-    if 1 < look.complementary {
-        1 < rules::other(look)
-    } else {
-        true
-    }
+    found
 }
 
-// The lower of two variables, of which the first may be 0, none.
-fn lower(found: u16, p: u16) -> u16
-    requires { ⌜ 0 < p ⌝ }
-    ensures { λ r. ⌜ variableAt r ≡ lowered (variableAt found) p ⌝ }
-{
-    if found == 0 {
-        return p;
-    }
-    if p < found { p } else { found }
-}
-
-// The lowest of `found` and the variables that stand in the clause at `from`, in which none is true; 0 is none.
-fn lowest_at(table: &[i16], state: State, from: usize, found: u16) -> u16
-    requires { ⌜ Ready (now table) (state .values) ⌝ }
-    requires { ⌜ from ≤ length (now table) ⌝ }
-    requires { ⌜ occurs TRUE (clauseAt (now table) (state .values) from) ≡ 0 ⌝ }
-    ensures { λ r. ⌜ variableAt r ≡ loweredBy (variableAt found) (clauseAt (now (table .entry)) (state .values) from) ⌝ }
+// The lowest of what was found and the variables that stand in the clause at `from`.
+fn lowest_at(table: &[i16], values: &[u16; Literal::VARIABLES], from: usize, found: Branch) -> Branch
+    requires { ⌜ Ready (now table) (now values) ⌝ }
+    ensures { λ r. ⌜ branchOf r ≡ lowerOf (branchOf found) (lowest (map var (clauseAt (now (table .entry)) (now (values .entry)) from))) ⌝ }
 {
     let mut lowest = found;
-    for i in from..table.len() {
-        if literal::size_at(table, i) == 0 {
+    let mut i = from;
+    loop {
+        let next = clause::next_literal(table, values, i);
+        let Next::Stands(x, after) = next else {
             return lowest;
-        }
-        let v = rules::standing_at(table, &state.values, i);
-        if v != Literal::FALSE {
-            lowest = lower(lowest, v / 2);
-        }
+        };
+        lowest = lower(lowest, x.variable());
+        i = after;
     }
-    lowest
 }
 
-// The lowest open variable that stands in a live clause; 0 where there is no live clause.
-fn branch_variable(table: &[i16], state: State) -> u16
-    requires { ⌜ Ready (now table) (state .values) ⌝ }
-    ensures { λ r. ⌜ variableAt r ≡ branchVariable (clauses (now (table .entry))) (stateOf (state .values)) ⌝ }
+// The lowest open variable that stands in a live clause.
+fn branch_variable(table: &[i16], values: &[u16; Literal::VARIABLES]) -> Branch
+    requires { ⌜ Ready (now table) (now values) ⌝ }
+    ensures { λ r. ⌜ branchOf r ≡ branchVariable (clauses (now (table .entry))) (stateOf (now (values .entry))) ⌝ }
 {
-    let mut lowest: u16 = 0;
+    let mut lowest = Branch::Nowhere;
     let mut from = 0;
     while from < table.len() {
-        if live(rules::look_at(table, state, from)) {
-            lowest = lowest_at(table, state, from, lowest);
+        if clause::live(table, values, from) {
+            lowest = lowest_at(table, values, from, lowest);
         }
-        from = rules::next_clause(table, from);
+        from = clause::next_clause(table, from);
     }
     lowest
 }
 
 // The walk ----------------------------------------------------------------------------------------------------------
 
-// A layout where no clause is live: open variables are left out, tied ones follow. The code of a literal of the constant is 0 or 1.
-fn write_choice(plan: &mut [u8], n: usize, state: State)
-    requires { ⌜ n ≤ length (now plan) ⌝ }
-    requires { ⌜ n ≤ 256 ⌝ }
-    ensures { λ _. ⌜ now (plan .exit) ≡ over n (upTo (λ p. bit (holds onlyConstant (stateOf (state .values) p))) n) (now (plan .entry)) ⌝ }
+// 1 where a literal is true when only the constant is: open variables are left out.
+fn chosen(x: Literal) -> u8
+    ensures { λ r. ⌜ r ≡ bit (holds onlyConstant x) ⌝ }
 {
-    for i in 0..n {
-        plan[i] = chosen(Literal(state.values[i + 1]));
+    match x {
+        Literal::Pos(p) => {
+            if p == 0 {
+                1
+            } else {
+                0
+            }
+        }
+        Literal::Neg(p) => {
+            if p == 0 {
+                0
+            } else {
+                1
+            }
+        }
     }
 }
 
-// 1 where a literal is true when only the constant is: TRUE, and the negative literals of open variables.
-fn chosen(x: Literal) -> u8
-    ensures { λ r. ⌜ r ≡ bit (holds onlyConstant (literalAt (x .0))) ⌝ }
+// A layout where no clause is live: open variables are left out, tied ones follow.
+fn write_choice(plan: &mut [u8], n: usize, state: State)
+    requires { ⌜ n ≤ length (now plan) ⌝ }
+    requires { ⌜ n ≤ maxVariables ⌝ }
+    ensures { λ _. ⌜ now (plan .exit) ≡ over n (map bit (choiceOf n (stateOf (state .values)))) (now (plan .entry)) ⌝ }
 {
-    if x.is_taken() {
-        if x.0 == Literal::TRUE { 1 } else { 0 }
-    } else {
-        if x.0 == Literal::FALSE { 0 } else { 1 }
+    for i in 0..n {
+        plan[i] = chosen(state::root(&state.values, Variable((i + 1) as u16)));
     }
 }
 
@@ -133,7 +132,7 @@ fn settle_and_decide(
     trail: &mut [i16],
 ) -> Walk
     requires { ⌜ Walkable (now table) n (state .values) depth (now plan) (now trail) ⌝ }
-    ensures { λ r. ⌜ ((f : ℕ) → opens (stateOf (state .values)) n < f → walkedAs r (now (plan .exit)) (now (trail .exit)) ≡ walkOf n depth (now (plan .entry)) (now (trail .entry)) (limited left (treeAt f n (now (table .entry)) (state .values)))) ⌝ }
+    ensures { λ r. ⌜ walked r (now (plan .exit)) (now (trail .exit)) ≡ walkOf n depth (limited left (treeAt n (now (table .entry)) (state .values))) (now (plan .entry)) (now (trail .entry)) ⌝ }
 {
     let settled = propagate::propagate(table, n, state);
     if settled.dead {
@@ -143,14 +142,14 @@ fn settle_and_decide(
         };
     }
     let s = settled.state;
-    let p = branch_variable(table, s);
-    if p == 0 {
+    let branch = branch_variable(table, &s.values);
+    let Branch::On(p) = branch else {
         write_choice(plan, n, s);
         return Walk {
             outcome: Outcome::LaidOut,
             count: 0,
         };
-    }
+    };
     split(table, n, s, p, left, depth, plan, trail)
 }
 
@@ -159,15 +158,15 @@ fn split(
     table: &[i16],
     n: usize,
     state: State,
-    p: u16,
+    p: Variable,
     left: u32,
     depth: usize,
     plan: &mut [u8],
     trail: &mut [i16],
 ) -> Walk
     requires { ⌜ Walkable (now table) n (state .values) depth (now plan) (now trail) ⌝ }
-    requires { ⌜ Open (stateOf (state .values)) n p ⌝ }
-    ensures { λ r. ⌜ ((f : ℕ) → opens (stateOf (state .values)) n ≤ f → walkedAs r (now (plan .exit)) (now (trail .exit)) ≡ walkOf n depth (now (plan .entry)) (now (trail .entry)) (limited left (splitAt f n (now (table .entry)) (state .values) p))) ⌝ }
+    requires { ⌜ Open n (stateOf (state .values)) (p .0) ⌝ }
+    ensures { λ r. ⌜ walked r (now (plan .exit)) (now (trail .exit)) ≡ walkOf n depth (limited left (splitAt n (now (table .entry)) (state .values) (p .0))) (now (plan .entry)) (now (trail .entry)) ⌝ }
 {
     if left == 0 {
         return Walk {
@@ -176,46 +175,34 @@ fn split(
         };
     }
     let second = state;
-    let x = Literal::new(Variable(p), true);
-    let opposite = x.opposite();
-    let first = state::assign(state, x, Literal(Literal::FALSE));
-    let a = settle_and_decide(table, n, first, left - 1, depth + 1, plan, trail);
-    let used = a.count;
-    let o = a.outcome;
-    match o {
-        Outcome::NoLayout => {
-            let taken = state::assign(second, x, Literal(Literal::TRUE));
-            let b = settle_and_decide(table, n, taken, left - 1 - used, depth + 1, plan, trail);
-            let more = b.count;
-            let q = b.outcome;
-            note_side(q, trail, depth, x);
-            Walk {
-                outcome: q,
-                count: 1 + used + more,
-            }
-        }
-        _ => {
-            note_side(o, trail, depth, opposite);
-            Walk {
-                outcome: o,
-                count: 1 + used,
-            }
-        }
-    }
+    let x = Literal::Pos(p.0);
+    let out = state::assign(state, x, Literal::FALSE);
+    let a = settle_and_decide(table, n, out, left - 1, depth + 1, plan, trail);
+    let outcome = a.outcome;
+    let Outcome::NoLayout = outcome else {
+        return through(a, 1, Literal::Neg(p.0), depth, trail);
+    };
+    let used = 1 + a.count;
+    let taken = state::assign(second, x, Literal::TRUE);
+    let b = settle_and_decide(table, n, taken, left - used, depth + 1, plan, trail);
+    through(b, used, x, depth, trail)
 }
 
-// A side on the path to a layout is written at its depth; nothing else is.
-fn note_side(outcome: Outcome, trail: &mut [i16], depth: usize, side: Literal)
-    requires { ⌜ depth < length (now trail) ⌝ }
-    ensures { λ _. ⌜ now (trail .exit) ≡ noted (outcomeOf outcome) depth (literalAt (side .0)) (now (trail .entry)) ⌝ }
+// A walk of one side, as a walk of the split: its splits count on, and on the path to a layout the side is written at its depth.
+fn through(side: Walk, splits: u32, x: Literal, depth: usize, trail: &mut [i16]) -> Walk
+    requires { ⌜ Passable (side .count) splits x depth (now trail) ⌝ }
+    ensures { λ r. ⌜ (r ≡ counted splits side) × (now (trail .exit) ≡ noted (side .outcome) depth x (now (trail .entry))) ⌝ }
 {
-    match outcome {
-        Outcome::LaidOut => {
-            let entry = side.entry();
-            trail[depth] = entry;
-        }
-        _ => {}
-    }
+    let outcome = side.outcome;
+    let walk = Walk {
+        outcome,
+        count: splits + side.count,
+    };
+    let Outcome::LaidOut = outcome else {
+        return walk;
+    };
+    trail[depth] = x.entry();
+    walk
 }
 
 pub fn search(
@@ -228,37 +215,22 @@ pub fn search(
     ensures { λ r. ⌜ called r (now (plan .exit)) (now (trail .exit)) ≡ searchCall n (now (table .entry)) allowance (now (plan .entry)) (now (trail .entry)) ⌝ }
 {
     let checked = table::check_table(table, n);
-    match checked {
-        Checked::Refused(refusal) => {
-            return Searching::Refused(refusal);
-        }
-        Checked::Passed => {}
+    if let Checked::Refused(refusal) = checked {
+        return Searching::Refused(refusal);
     }
     if plan.len() < n {
-        return refused(Fault::PlanShort);
+        return Searching::Refused(Refusal::new(Fault::PlanShort, 0));
     }
     if trail.len() < n {
-        return refused(Fault::TrailShort);
+        return Searching::Refused(Refusal::new(Fault::TrailShort, 0));
     }
     fill::clear_bytes(plan, n);
     fill::clear_numbers(trail, n);
-    answered(settle_and_decide(table, n, state::initial(), allowance, 0, plan, trail))
-}
-
-fn answered(walk: Walk) -> Searching
-    ensures { λ r. ⌜ r ≡ answered (walk .outcome) (walk .count) ⌝ }
-{
-    let count = walk.count;
+    let walk = settle_and_decide(table, n, state::initial(), allowance, 0, plan, trail);
     let outcome = walk.outcome;
-    match outcome {
-        Outcome::LaidOut => Searching::LaidOut(count),
-        Outcome::NoLayout => Searching::NoLayout(count),
-        Outcome::Stopped => Searching::Stopped(count),
+    let count = walk.count;
+    Searching::Ended {
+        outcome,
+        count,
     }
-}
-
-fn refused(fault: Fault) -> Searching
-    ensures { λ r. ⌜ r ≡ refusedFor fault ⌝ }
-{
-    Searching::Refused(Refusal { fault, place: 0 })
 }

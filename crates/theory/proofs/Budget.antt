@@ -17,9 +17,9 @@ finished-not-stopped : {A : Type 0} (l : List (Found A)) → ¬ (finished l ≡ 
 finished-not-stopped [] e = let z : _≡_ {A = ℕ} 0 1 = cc in omega arith
 finished-not-stopped (a ∷ l) e = let z : _≡_ {A = ℕ} 0 1 = cc in omega arith
 
-finished-none : {A : Type 0} (l : List (Found A)) → finished l ≡ NoLayout → l ≡ []
-finished-none [] e = refl
-finished-none (a ∷ l) e = absurd (let z : _≡_ {A = ℕ} 0 1 = cc in omega arith)
+finished-empty : {A : Type 0} (l : List (Found A)) → ¬ (finished l ≡ LaidOut) → l ≡ []
+finished-empty [] h = refl
+finished-empty (a ∷ l) h = absurd (h refl)
 
 module _ {A : Type 0} (b : ℕ) (r : Run A) where
   pub limited-enough : r .splits ≤ b → limited b r ≡ finish r
@@ -49,6 +49,20 @@ module _ {A : Type 0} (b : ℕ) (r : Run A) where
 
   pub limited-finished : ¬ (limited b r .outcome ≡ Stopped) → limited b r ≡ finish r
   limited-finished h = elim (decLe (r .splits) b) [ yes p ↦ limited-enough p | no p ↦ absurd (h (stopped-iff .1 (omega arith))) ]
+
+  -- nothing is found where it is not laid out
+  pub limited-empty : ¬ (limited b r .outcome ≡ LaidOut) → limited b r .found ≡ []
+  limited-empty h = elim (decLe (r .splits) b) [
+    | yes p ↦ rw (limited-enough p) (finished-empty (r .found) (λ e. h (ap (λ t. t .outcome) (limited-enough p) ∙ e)))
+    | no p ↦ ap (λ t. t .found) (limited-short (omega arith))
+  ]
+
+  -- no layout is reported only where nothing is found
+  pub limited-nothing : limited b r .outcome ≡ NoLayout → (r .found ≡ []) × (limited b r ≡ result NoLayout (r .splits) [])
+  limited-nothing e =
+      let f = limited-finished (λ s. let z : _≡_ {A = ℕ} 0 1 = cc in omega arith) in
+      let g = finished-empty (r .found) (λ s. let z : _≡_ {A = ℕ} 0 1 = cc (ap (λ t. t .outcome) f) in omega arith) in
+      (g, f ∙ rw g)
 
   -- what holds of nothing and of what the run finds
   pub limited-found : (P : List (Found A) → Type 0) → P [] → P (r .found) → P (limited b r .found)
@@ -105,7 +119,7 @@ module _ {S A : Type 0} (walk : ℕ → S → Run A) (p : ℕ) (l r : S) where
     pub split-second : limited b first .outcome ≡ NoLayout →
         limited (1 + b) whole ≡ past (1 + limited b first .count) (Pos p) (limited (b - limited b first .count) (walk 1 r))
     split-second e =
-        let f = limited-finished b first (λ s. let z : _≡_ {A = ℕ} 0 1 = cc in omega arith) in
-        let c : limited b first .count ≡ first .splits = ap (λ t. t .count) f in
+        let f = limited-nothing b first e in
+        let c : limited b first .count ≡ first .splits = ap (λ t. t .count) (f .1) in
         let all : 1 + b ≡ 1 + first .splits + (b - first .splits) = omega (arith, count-min b first) in
-        rw (c, finished-none (first .found) (sym (ap (λ t. t .outcome) f) ∙ e), all) (limited-past (1 + first .splits) (Pos p) (b - first .splits) (walk 1 r))
+        rw (c, f .0, all) (limited-past (1 + first .splits) (Pos p) (b - first .splits) (walk 1 r))

@@ -80,7 +80,7 @@ module _ (n : ℕ) (t : List ℤ) (accepted : Accepted n t) where
   solved : IsFirst (Solution n (clauses t)) (choiceFound found)
   solved = tree-first-solution (accepted-within n t accepted)
 
-  search-finished : (b : ℕ) → ¬ (search n t b .outcome ≡ Stopped) → search n t b ≡ finish (treeOf n (clauses t))
+  pub search-finished : (b : ℕ) → ¬ (search n t b .outcome ≡ Stopped) → search n t b ≡ finish (treeOf n (clauses t))
   unfolding search
   search-finished b = limited-finished b (treeOf n (clauses t))
 

@@ -9,21 +9,21 @@ use Rattle.search.proofs.Calling.{call-refused, call-plan-short, call-t
 use Rattle.search.proofs.search.Statement.{statement}
 use Rattle.search.proofs.search.Tie as tie
 
+accepted : (c : tie.After-enum-told) → let a = c .before .before .before .before .args in Accepted (a .n) (now (a .table))
+accepted c = sym (c .before .before .check-table .ensures) ∙ c .enum-told .given .1
+
 returns : tie.Need-returns
 returns c =
     let k = c .before .before .before in
     call-refused _ _ _ _ _ _ (sym (k .check-table .ensures) ∙ c .before .checked .given .1)
 
-accepted : (c : tie.After-enum-told) → let a = c .before .before .before .before .args in Accepted (a .n) (now (a .table))
-accepted c = sym (c .before .before .check-table .ensures) ∙ c .enum-told .given .1
-
 returns-2 : tie.Need-returns-2
-returns-2 c = rw (c .refused .ensures) (call-plan-short _ _ _ _ _ (accepted (c .before .before)) (c .before .if1 .taken))
+returns-2 c = rw (c .new .ensures) (call-plan-short _ _ _ _ _ (accepted (c .before .before)) (c .before .if1 .taken))
 
 returns-3 : tie.Need-returns-3
 returns-3 c =
     let e = c .before .before in
-    rw (c .refused2 .ensures) (call-trail-short _ _ _ _ _ (accepted (e .before)) (e .if1 .left) (c .before .if2 .taken))
+    rw (c .new2 .ensures) (call-trail-short _ _ _ _ _ (accepted (e .before)) (e .if1 .left) (c .before .if2 .taken))
 
 settle-and-decide-requires : tie.Need-settle-and-decide-requires
 settle-and-decide-requires c κs =
@@ -39,15 +39,14 @@ settle-and-decide-requires c κs =
 
 returns-4 : tie.Need-returns-4
 returns-4 c =
-    let w = c .before .before .before .before in
+    let w = c .before .before .before in
     let i = w .before .before .before in
     let n = i .before .before in
     let b = n .before .before .before .before in
     let e = b .before .before in
     let a = e .before .before .before .before .before .before .args in
-    rw (c .answered .ensures)
-    (call-walked (a .n) (now (a .table)) (a .allowance) (now (a .plan)) (now (a .trail)) (accepted (e .before .before)) (e .before .if1 .left) (e .if2 .left)
-    _ (i .initial .ensures .0) _ (b .clear-bytes .ensures) _ (n .clear-numbers .ensures) (w .settle-and-decide .result) _ _ (w .settle-and-decide .ensures))
+    call-walked (a .n) (now (a .table)) (a .allowance) (now (a .plan)) (now (a .trail)) (accepted (e .before .before)) (e .before .if1 .left) (e .if2 .left)
+    _ (i .initial .ensures .0) _ (b .clear-bytes .ensures) _ (n .clear-numbers .ensures) (w .settle-and-decide .result) _ _ (w .settle-and-decide .ensures)
 
 pub search-spec : {M : Type 1} → statement M
 search-spec =
@@ -65,7 +64,6 @@ search-spec =
     (λ c κs. search needs)
     (λ c κs. search needs)
     settle-and-decide-requires
-    (λ c κs. search needs)
     (λ c. search needs)
     (λ c. search needs)
     returns-4)

@@ -1,33 +1,40 @@
 -- `write_choice` meets its contract, by the laws of Runs.
-use mathlib.Core.Path.{_≡_, sym, _∙_}
+use mathlib.Core.Path.{_≡_, ap, sym, _∙_}
+use mathlib.Core.List.{List, map}
+use mathlib.Core.Bool.{false}
 use Prim.Native.Nat.{ℕ, _+_, _-_, _<_}
 use borrow.Author.Needs.{needs}
 use native.Mathlib.Omega.{arith}
-use lib.ListN.{getD}
+use lib.ListN.{length, getD, length-map, List·getD-map}
 use Rattle.general.specs.Booleans.{bit}
-use Rattle.general.specs.Lists.{upTo, length-from, getD-from}
+use Rattle.general.specs.Lists.{length-from, getD-from}
 use Rattle.general.specs.Runs.{Writing, begun, turned-front, written-front}
-use Rattle.literal.specs.Literal.{literalAt}
 use Rattle.theory.specs.Formula.{holds}
-use Rattle.theory.specs.Search.{onlyConstant}
+use Rattle.theory.specs.Search.{onlyConstant, choiceOf}
+use Rattle.theory.specs.State.{State}
 use Rattle.state.specs.State.{stateOf}
-use Rattle.state.specs.declared.State.{State}
-use Rattle.state.proofs.Values.{stateOf-inside}
 use Rattle.search.proofs.write_choice.Statement.{statement}
 use Rattle.search.proofs.write_choice.Tie as tie
 
-abbrev value : State → ℕ → ℕ
-value s p = bit (holds onlyConstant (stateOf (s .values) p))
+abbrev plan : ℕ → State → List ℕ
+plan n s = map bit (choiceOf n s)
 
--- the element at i + 1
-chosen-at : (s : State) (i r : ℕ) → r ≡ bit (holds onlyConstant (literalAt (getD (s .values) (i + 1) 0))) → i < 256 → r ≡ value s (1 + i)
-chosen-at s i r e h = let z : i + 1 ≡ 1 + i = omega arith in e ∙ rw (z, stateOf-inside (s .values) (1 + i) (omega arith))
+long : (n : ℕ) (s : State) → length (plan n s) ≡ n
+unfolding choiceOf
+long n s = length-map (choiceOf n s) bit ∙ length-from _ 1 n
+
+at : (n : ℕ) (s : State) (i : ℕ) → i < n → bit (holds onlyConstant (s (i + 1))) ≡ getD (plan n s) i 0
+unfolding choiceOf
+at n s i h = sym (
+    List·getD-map bit (choiceOf n s) i false ∙ ap bit (getD-from (λ p. holds onlyConstant (s p)) 1 n i false h) ∙
+    ap (λ (p : ℕ). bit (holds onlyConstant (s p))) (omega arith)
+)
 
 abbrev Inv-loop : tie.InvT-loop
-Inv-loop plan₀ n state i₀ plan i = Writing 0 n (upTo (value state) n) plan₀ plan i
+Inv-loop plan₀ n state i₀ new i = Writing 0 n (plan n (stateOf (state .values))) plan₀ new i
 
 abbrev μ-loop : tie.MeasureT-loop
-μ-loop plan₀ n state i₀ plan i = n - i
+μ-loop plan₀ n state i₀ new i = n - i
 
 pub write-choice-spec : {M : Type 1} → statement M
 write-choice-spec =
@@ -38,16 +45,16 @@ write-choice-spec =
     (λ c. begun _ _ _ _)
     (λ c. search needs)
     (λ c. search needs)
-    (λ c. search needs)
+    (λ c κs. search needs)
     (λ c κs. search needs)
     (λ c. search needs)
     (λ c. search needs)
     (λ c. search needs)
     (λ c.
-    let l = c .before .before .before in
+    let l = c .before .before .before .before .before in
     let a = l .before .before .args in
-    let h = c .before .before .loop-test .taken in
-    turned-front _ _ _ (length-from _ 1 (a .n)) _ _ (l .loop .inv) (l .before .before .pre .0) h (c .chosen .result) 0
-    (chosen-at (a .t3) (l .loop .i) _ (c .chosen .ensures) (omega (arith, l .before .before .pre .1)) ∙ sym (getD-from _ 1 (a .n) _ 0 h)))
+    let h = c .before .before .before .before .loop-test .taken in
+    turned-front _ _ _ (long _ _) _ _ (l .loop .inv) (l .before .before .pre .0) h (c .chosen .result) 0
+    (c .chosen .ensures ∙ ap (λ x. bit (holds onlyConstant x)) (c .before .root .ensures) ∙ at (a .n) (stateOf (a .t3 .values)) (l .loop .i) h))
     (λ c. search needs)
-    (λ c. written-front _ _ _ (length-from _ 1 _) _ _ (c .before .loop .inv) (c .loop-test .left)))
+    (λ c. written-front _ _ _ (long _ _) _ _ (c .before .loop .inv) (c .loop-test .left)))
