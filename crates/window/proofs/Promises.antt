@@ -1,0 +1,224 @@
+-- The user's demands, said of a call of the window by the number that it returns, and of the plan and the receipt after it.
+-- A call of an acceptable strip is a call of Search on the table of its groups, with a trail of the window's own: so what Search promises holds here too.
+-- All of it follows from the equation that `window` ensures.
+use mathlib.Core.Path.{_≡_, refl, ap, sym, _∙_}
+use mathlib.Core.Bool.{true}
+use mathlib.Core.Logic.{_⊎_, inl, inr, ⊎-elim, _↔_}
+use mathlib.Core.List.{List, [], _∷_, _++_, map, List·Memᴰ, List·Memᴰ·head, List·Memᴰ·tail}
+use Prim.Native.Nat.{ℕ, zero, suc, _+_, _≤_, _<_, min}
+use native.Mathlib.Decide.{decLe, decLt}
+use native.Mathlib.Omega.{arith}
+use borrow.Author.Tests.{lt-ltb, le-ltb}
+use lib.IntN.{ℤ, pos as posℤ}
+use lib.ListN.{length, take, drop, replicate, length-map, length-append, length-replicate}
+use Rattle.general.specs.Booleans.{bit}
+use Rattle.literal.specs.declared.Literal.{Literal}
+use Rattle.literal.specs.declared.Literal.the-variants.{Pos, Neg}
+use Rattle.literal.specs.Literal.{var, entryOf, maxVariables, maxClauses, maxLiterals, maxTable}
+use Rattle.receipt.specs.declared.Fault.the-variants.{PlanShort, ReceiptShort, TableShort}
+use Rattle.receipt.specs.declared.Outcome.{Outcome}
+use Rattle.receipt.specs.declared.Outcome.the-variants.{LaidOut, NoLayout, Stopped}
+use Rattle.receipt.specs.declared.Reading.{Reading}
+use Rattle.receipt.specs.declared.Reading.the-variants.{Read, Refused}
+use Rattle.receipt.specs.declared.Receipt.{Receipt}
+use Rattle.receipt.specs.declared.Refusal.{Refusal}
+use Rattle.receipt.specs.Receipt.{numberOf, outcomeNumber, refusal, refusedReceipt}
+use Rattle.receipt.specs.Answers.{searchingReceipt}
+use Rattle.receipt.proofs.Numbers.{answers, not-refused}
+use Rattle.theory.specs.Bound.{N}
+use Rattle.theory.specs.Calls.{over, SearchCall, searchRefused, searchCall, solveRead, solveCall, receiptLength, receiptBytes, WindowCall, written, windowCall}
+use Rattle.theory.specs.Encoding.{Item, groups, tableOf, entries, StripWithin, Bytes}
+use Rattle.theory.specs.Formula.{Clause, Formula, Choice, push, clauses, Solution}
+use Rattle.theory.specs.Order.{_≼_, Least}
+use Rattle.theory.specs.Search.{needs}
+use Rattle.theory.specs.Strip.{Decoding, nothingRead, readStrip}
+use Rattle.theory.proofs.Tables.{accepted-sizes}
+use Rattle.strip.proofs.Accepted.{read-accepted}
+use Rattle.strip.proofs.Ends.{Ended, answered}
+use Rattle.strip.proofs.Promises.{within-reads, accepted-exactly}
+use Rattle.theory.specs.Calls.{readCall}
+use Rattle.search.specs.Call as search
+use Rattle.search.proofs.Calling.{call-plan-short}
+use Rattle.search.proofs.Promises as promises
+use Rattle.window.specs.Window.{called}
+use Rattle.window.proofs.Calling.{call-short}
+use Rattle.window.specs.Call.{Acceptable, Stamped, Call, Reports, refusedCall, numberAt, countOf, Alike}
+
+-- the table of a strip within the limits ---------------------------------------------------------------------------
+
+entry-row : (c : Clause) (t : List ℤ) → ((x : Literal) → List·Memᴰ x c → 0 < var x) → clauses (map entryOf c ++ (posℤ 0 ∷ t)) ≡ c ∷ clauses t
+unfolding clauses
+entry-row [] t h = refl
+entry-row (Pos zero ∷ c) t h = absurd (omega (arith, h (Pos zero) (List·Memᴰ·head refl)))
+entry-row (Neg zero ∷ c) t h = absurd (omega (arith, h (Neg zero) (List·Memᴰ·head refl)))
+entry-row (Pos (suc p) ∷ c) t h = ap (push (Pos (suc p))) (entry-row c t (λ x m. h x (List·Memᴰ·tail m)))
+entry-row (Neg (suc p) ∷ c) t h = ap (push (Neg (suc p))) (entry-row c t (λ x m. h x (List·Memᴰ·tail m)))
+
+-- the table of a formula is read as that formula
+table-clauses : (f : Formula) → ((c : Clause) (x : Literal) → List·Memᴰ c f → List·Memᴰ x c → 0 < var x) → clauses (tableOf f) ≡ f
+unfolding tableOf clauses
+table-clauses [] h = refl
+table-clauses (c ∷ f) h =
+    entry-row c (tableOf f) (λ x. h c x (List·Memᴰ·head refl)) ∙ ap (λ (g : Formula). c ∷ g) (table-clauses f (λ d x m. h d x (List·Memᴰ·tail m)))
+
+table-length : (f : Formula) → length (tableOf f) ≡ length f + entries f
+unfolding tableOf entries
+table-length [] = refl
+table-length (c ∷ f) = omega (arith, table-length f, length-append (map entryOf c) (posℤ 0 ∷ tableOf f), length-map c entryOf)
+
+within-read : {s : List ℕ} {n : ℕ} {l : List Item} → Bytes s → StripWithin s n l → readStrip s maxTable ≡ record { reading = Read n (length (tableOf (groups l))); table = tableOf (groups l) }
+within-read {s} {n} {l} b w = within-reads s b maxTable n l w (omega (arith, table-length (groups l), w .clauses, w .literals))
+
+strip-exactly : (s : List ℕ) → Bytes s → (n u : ℕ) (t : List ℤ) → length t ≡ maxTable → readStrip s maxTable .reading ≡ Read n u → (l : List Item) × StripWithin s n l
+unfolding readCall
+strip-exactly s b n u t k e = let r = accepted-exactly s t (readCall s t .answer) (readCall s t .table) refl b n u .0 (rw k e) in (r .0, r .1)
+
+-- what is on the receipt -------------------------------------------------------------------------------------------
+
+numbers-read : (r : Receipt) (old : List ℕ) → let new = over receiptLength (receiptBytes r) old in
+    (numberAt 0 new ≡ r .number) × (numberAt 4 new ≡ r .place) × (numberAt 8 new ≡ r .count)
+numbers-read r old = (omega arith, omega arith, omega arith)
+
+-- solving, by how the strip reads ----------------------------------------------------------------------------------
+
+module _ (s : List ℕ) (b : ℕ) (plan : List ℕ) (trail : List ℤ) where
+  solve-refused : (f : Refusal) → readStrip s maxTable .reading ≡ Refused f → solveCall s b plan trail ≡ searchRefused f plan trail
+  unfolding solveCall
+  solve-refused f e = rw e
+
+  solve-reads : (n u : ℕ) → readStrip s maxTable .reading ≡ Read n u → solveCall s b plan trail ≡ searchCall n (readStrip s maxTable .table) b plan trail
+  unfolding solveCall
+  solve-reads n u e = rw e
+
+outcome-answers : (o : Outcome) → answers (outcomeNumber o) ≡ true
+outcome-answers LaidOut = refl
+outcome-answers NoLayout = refl
+outcome-answers Stopped = refl
+
+outcome-not-short : (o : Outcome) → ¬ (outcomeNumber o ≡ numberOf TableShort)
+outcome-not-short LaidOut e = omega arith
+outcome-not-short NoLayout e = omega arith
+outcome-not-short Stopped e = omega arith
+
+-- no other refusal has the number of a table short
+refused-not-short : (s : List ℕ) (f : Refusal) → readStrip s maxTable .reading ≡ Refused f → ¬ (numberOf (f .fault) ≡ numberOf TableShort)
+refused-not-short s f e = let a : Ended s maxTable 0 nothingRead [] (Refused f) (readStrip s maxTable .table) = rw e at (answered s maxTable) in a .2 (omega arith)
+
+-- demand 1: a receipt too short --------------------------------------------------------------------------------------
+
+-- "Window: 9" first; such a receipt is not written, and nothing else is
+pub window-short-receipt : (s : List ℕ) (b : ℕ) (plan old : List ℕ) (w : WindowCall) → w ≡ windowCall s b plan old → length old < receiptLength →
+    w ≡ called (numberOf ReceiptShort) plan old
+window-short-receipt s b plan old w is h = is ∙ sym (call-short s b plan old h)
+
+-- demand 1: a receipt long enough ------------------------------------------------------------------------------------
+
+module _ {s : List ℕ} {b : ℕ} {plan old : List ℕ} {w : WindowCall} (h : Stamped s b plan old w) where
+  abbrev own : List ℤ
+  own = replicate maxVariables (posℤ 0)
+
+  stamped : w ≡ written (solveCall s b plan own) old
+  unfolding windowCall
+  stamped = h .is ∙ rw (le-ltb (length old) receiptLength (h .receipt-room))
+
+  -- "The call itself returns the number": the one on the receipt
+  pub window-number : numberAt 0 (w .receipt) ≡ w .number
+  window-number = rw stamped (numbers-read (searchingReceipt (solveCall s b plan own .answer)) old .0)
+
+  -- "Elements not named are never changed."
+  pub window-receipt-rest : drop receiptLength (w .receipt) ≡ drop receiptLength old
+  window-receipt-rest = rw stamped
+
+  -- "Window: 9, strip refusals except 23": of a refused strip
+  pub window-strip-refused : (f : Refusal) → readStrip s maxTable .reading ≡ Refused f → w ≡ refusedCall f plan old
+  window-strip-refused f e = stamped ∙ ap (λ (c : SearchCall). written c old) (solve-refused s b plan own f e)
+
+  module _ (n u : ℕ) (e : readStrip s maxTable .reading ≡ Read n u) where
+    read : w ≡ written (searchCall n (readStrip s maxTable .table) b plan own) old
+    read = stamped ∙ ap (λ (c : SearchCall). written c old) (solve-reads s b plan own n u e)
+
+    -- "then 6"
+    pub window-plan-short : length plan < n → w ≡ refusedCall (refusal PlanShort 0) plan old
+    window-plan-short k = read ∙ ap (λ (c : SearchCall). written c old) (sym (call-plan-short n (readStrip s maxTable .table) b plan own (read-accepted s maxTable n u e) k))
+
+    searched : n ≤ length plan → search.Call n (readStrip s maxTable .table) b plan own (searchCall n (readStrip s maxTable .table) b plan own)
+    searched k =
+        let a = accepted-sizes n (readStrip s maxTable .table) (read-accepted s maxTable n u e) in
+        record { acceptable = record { table = a; plan-room = k; trail-room = omega (arith, a .variables, length-replicate maxVariables (posℤ 0)) }; is = refl }
+
+  -- every call is refused, or searches what was read
+  abbrev Turned : Type 0
+  Turned = (f : Refusal) × (w ≡ refusedCall f plan old) × ¬ (numberOf (f .fault) ≡ numberOf TableShort)
+
+  abbrev Answered : Type 0
+  Answered = (n : ℕ) × (u : ℕ) × (readStrip s maxTable .reading ≡ Read n u) × (n ≤ length plan) × ((o : Outcome) × Reports w o)
+
+  fate : Turned ⊎ Answered
+  fate = go (readStrip s maxTable .reading) refl
+    where
+      go : (r : Reading) → readStrip s maxTable .reading ≡ r → Turned ⊎ Answered
+      go (Refused f) e = inl (f, window-strip-refused f e, refused-not-short s f e)
+      go (Read n u) e = elim (decLt (length plan) n) [
+        | yes k ↦ inl (refusal PlanShort 0, window-plan-short n u e k, λ z. omega arith)
+        | no k ↦
+            let l : n ≤ length plan = omega arith in
+            let q = ap (λ (c : WindowCall). c .number) (read n u e) in
+            inr (n, u, e, l, ⊎-elim (λ r. (LaidOut, q ∙ r)) (⊎-elim (λ r. (NoLayout, q ∙ r)) (λ r. (Stopped, q ∙ r))) (promises.ends (searched n u e l)))
+      ]
+
+  turned-unanswered : Turned → (o : Outcome) → ¬ Reports w o
+  turned-unanswered r o e = not-refused (r .0 .fault) (outcomeNumber o) (outcome-answers o) (sym (ap (λ (c : WindowCall). c .number) (r .1)) ∙ e)
+
+  -- demand 1: "a refused call changes no lent element except a receipt long enough to be written"
+  pub window-refused-unchanged : ((o : Outcome) → ¬ Reports w o) → (f : Refusal) × (w ≡ refusedCall f plan old)
+  window-refused-unchanged k = ⊎-elim (λ r. (r .0, r .1)) (λ a. absurd (k (a .4 .0) (a .4 .1))) fate
+
+  not-short : ¬ (w .number ≡ numberOf TableShort)
+  not-short e = ⊎-elim (λ r. r .2 (sym (ap (λ (c : WindowCall). c .number) (r .1)) ∙ e)) (λ a. outcome-not-short (a .4 .0) (sym (a .4 .1) ∙ e)) fate
+
+-- "strip refusals except 23": no call is answered with it
+pub window-never-short : (s : List ℕ) (b : ℕ) (plan old : List ℕ) (w : WindowCall) → w ≡ windowCall s b plan old → ¬ (w .number ≡ numberOf TableShort)
+window-never-short s b plan old w is e = elim (decLt (length old) receiptLength) [
+  | yes k ↦ let z : numberOf ReceiptShort ≡ numberOf TableShort = sym (ap (λ (c : WindowCall). c .number) (window-short-receipt s b plan old w is k)) ∙ e in omega arith
+  | no k ↦ not-short (record { receipt-room = omega arith; is = is }) e
+]
+
+-- acceptable strips --------------------------------------------------------------------------------------------------
+
+module _ {s : List ℕ} {n : ℕ} {l : List Item} {b : ℕ} {plan old : List ℕ} {w : WindowCall} (h : Call s n l b plan old w) where
+  abbrev table : List ℤ
+  table = tableOf (groups l)
+
+  abbrev trail : List ℤ
+  trail = replicate maxVariables (posℤ 0)
+
+  is-read : readStrip s maxTable ≡ record { reading = Read n (length table); table = table }
+  is-read = within-read (h .bytes) (h .acceptable .strip)
+
+  reads : readStrip s maxTable .reading ≡ Read n (length table)
+  reads = ap (λ (d : Decoding). d .reading) is-read
+
+  -- the window searches the table of the strip's groups
+  pub window-searches : search.Call n table b plan trail (searchCall n table b plan trail)
+  window-searches = rw (ap (λ (d : Decoding). d .table) is-read) at (searched (h .stamped) n (length table) reads (h .acceptable .plan-room))
+
+  pub window-answers : w ≡ written (searchCall n table b plan trail) old
+  window-answers = rw (ap (λ (d : Decoding). d .table) is-read) at (read (h .stamped) n (length table) reads)
+
+  found : SearchCall
+  found = searchCall n table b plan trail
+
+  is-formula : clauses table ≡ groups l
+  is-formula = table-clauses (groups l) (h .acceptable .strip .known .low)
+
+  number-is : w .number ≡ searchingReceipt (found .answer) .number
+  unfolding found
+  number-is = ap (λ (c : WindowCall). c .number) window-answers
+
+  count-is : countOf w ≡ search.countOf found
+  unfolding found
+  count-is = rw window-answers (numbers-read (searchingReceipt (searchCall n table b plan trail .answer)) old .2)
+
+  plan-is : w .plan ≡ found .plan
+  unfolding found
+  plan-is = ap (λ (c : WindowCall). c .plan) window-answers
