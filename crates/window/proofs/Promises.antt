@@ -22,6 +22,7 @@ use Rattle.receipt.specs.declared.Reading.{Reading}
 use Rattle.receipt.specs.declared.Reading.the-variants.{Read, Refused}
 use Rattle.receipt.specs.declared.Receipt.{Receipt}
 use Rattle.receipt.specs.declared.Refusal.{Refusal}
+use Rattle.receipt.specs.declared.Searching.{Searching}
 use Rattle.receipt.specs.Receipt.{numberOf, outcomeNumber, refusal, refusedReceipt}
 use Rattle.receipt.specs.Answers.{searchingReceipt}
 use Rattle.receipt.proofs.Numbers.{answers, not-refused}
@@ -198,27 +199,101 @@ module _ {s : List ℕ} {n : ℕ} {l : List Item} {b : ℕ} {plan old : List ℕ
   reads : readStrip s maxTable .reading ≡ Read n (length table)
   reads = ap (λ (d : Decoding). d .reading) is-read
 
-  -- the window searches the table of the strip's groups
-  pub window-searches : search.Call n table b plan trail (searchCall n table b plan trail)
-  window-searches = rw (ap (λ (d : Decoding). d .table) is-read) at (searched (h .stamped) n (length table) reads (h .acceptable .plan-room))
-
-  pub window-answers : w ≡ written (searchCall n table b plan trail) old
-  window-answers = rw (ap (λ (d : Decoding). d .table) is-read) at (read (h .stamped) n (length table) reads)
-
-  found : SearchCall
+  abbrev found : SearchCall
   found = searchCall n table b plan trail
+
+  -- the window's answer is that of a call of Search on the table of the strip's groups
+  pub window-searches : search.Call n table b plan trail found × (w ≡ written found old)
+  window-searches =
+      let q = ap (λ (d : Decoding). d .table) is-read in
+      let k = reads in
+      (rw q at (searched (h .stamped) n (length table) k (h .acceptable .plan-room)), rw q at (read (h .stamped) n (length table) k))
+
+  call : search.Call n table b plan trail found
+  call = window-searches .0
+
+  plan-is : w .plan ≡ found .plan
+  plan-is = ap (λ (c : WindowCall). c .plan) (window-searches .1)
+
+  count-is : countOf w ≡ search.countOf found
+  count-is = rw (window-searches .1) (numbers-read (searchingReceipt (found .answer)) old .2)
+
+  reports : {k : ℕ} → w .number ≡ k → searchingReceipt (found .answer) .number ≡ k
+  reports e = sym (ap (λ (c : WindowCall). c .number) (window-searches .1)) ∙ e
+
+  reported : {k : ℕ} → searchingReceipt (found .answer) .number ≡ k → w .number ≡ k
+  reported e = ap (λ (c : WindowCall). c .number) (window-searches .1) ∙ e
 
   is-formula : clauses table ≡ groups l
   is-formula = table-clauses (groups l) (h .acceptable .strip .known .low)
 
-  number-is : w .number ≡ searchingReceipt (found .answer) .number
-  unfolding found
-  number-is = ap (λ (c : WindowCall). c .number) window-answers
+  -- demand 1: "a search brings back a layout, no layout, or a stop"
+  pub window-ends : Reports w LaidOut ⊎ Reports w NoLayout ⊎ Reports w Stopped
+  window-ends = ⊎-elim (λ e. inl (reported e)) (⊎-elim (λ e. inr (inl (reported e))) (λ e. inr (inr (reported e)))) (promises.ends call)
 
-  count-is : countOf w ≡ search.countOf found
-  unfolding found
-  count-is = rw window-answers (numbers-read (searchingReceipt (searchCall n table b plan trail .answer)) old .2)
+  -- demand 2: "it is the first such choice, counting from placement 1 with left out before taken"
+  pub window-first-layout : Reports w LaidOut → (f : Choice) × Least _≼_ (Solution n (groups l)) f × (take n (w .plan) ≡ map bit f)
+  window-first-layout e = rw plan-is (rw is-formula at (promises.first-layout call (reports e)))
 
-  plan-is : w .plan ≡ found .plan
-  unfolding found
-  plan-is = ap (λ (c : WindowCall). c .plan) window-answers
+  -- demand 2: "When no choice does so it reports no layout, and at no other time"
+  pub window-no-layout-exactly : ¬ Reports w Stopped → Reports w NoLayout ↔ ((f : Choice) → ¬ Solution n (groups l) f)
+  window-no-layout-exactly k =
+      let p = rw is-formula at (promises.no-layout-exactly call (λ e. k (reported e))) in
+      (λ e. p .0 (reports e), λ g. reported (p .1 g))
+
+  -- demand 2: "reports a layout when some choice of placements makes exactly one entry true in every group of the whole filing"
+  pub window-layout-when-some : ¬ Reports w Stopped → (f : Choice) → Solution n (groups l) f → Reports w LaidOut
+  window-layout-when-some k f g = reported (promises.layout-when-some call (λ e. k (reported e)) f (rw is-formula g))
+
+  -- demand 3: "an accepted search stops exactly when the tree of document 01 needs more splits than allowed"
+  pub window-stops-exactly : Reports w Stopped ↔ (b < needs n table)
+  window-stops-exactly = let p = promises.stops-exactly call in (λ e. p .0 (reports e), λ k. reported (p .1 k))
+
+  -- demand 3: "its count is the smaller of what that tree needs and the allowance"
+  pub window-count : countOf w ≡ min (needs n table) b
+  window-count = count-is ∙ promises.count-smaller call
+
+  -- "A stop's count is the allowance."
+  pub window-stop-count : Reports w Stopped → countOf w ≡ b
+  window-stop-count e = count-is ∙ promises.stop-count call (reports e)
+
+  -- demand 3: "For n placements the tree never needs more than the bound N(n)"
+  pub window-count-bound : countOf w ≤ N n
+  window-count-bound = rw count-is (promises.count-bound call)
+
+  -- "An allowance of N(n), where 32 bits hold it, always finishes."
+  pub window-bound-finishes : N n ≤ b → ¬ Reports w Stopped
+  window-bound-finishes k e = promises.bound-finishes call k (reports e)
+
+  -- "No layout or stopped: the first n of both become 0."
+  pub window-others-zero : ¬ Reports w LaidOut → take n (w .plan) ≡ replicate n 0
+  window-others-zero k = rw plan-is (promises.others-zero call (λ e. k (reported e)) .0)
+
+  -- demand 3: "the rest of both lists stays as it was"
+  pub window-rest-kept : drop n (w .plan) ≡ drop n plan
+  window-rest-kept = rw plan-is (promises.rest-kept call .0)
+
+-- demand 1: "Every table and strip within the limits of document 01, with room lent for the results, is accepted"; "Every other input is refused"
+pub window-accepts : {s : List ℕ} {b : ℕ} {plan old : List ℕ} {w : WindowCall} → Stamped s b plan old w → Bytes s →
+    ((o : Outcome) × Reports w o) ↔ ((n : ℕ) × (l : List Item) × Acceptable s n l plan)
+window-accepts {s} h bytes = (
+  λ r. ⊎-elim
+      (λ t. absurd (turned-unanswered h t (r .0) (r .1)))
+      (λ a.
+          let l = strip-exactly s bytes (a .0) (a .1) (replicate maxTable (posℤ 0)) (length-replicate maxTable (posℤ 0)) (a .2) in
+          (a .0, l .0, record { strip = l .1; plan-room = a .3 }))
+      (fate h),
+  λ a. ⊎-elim (λ e. (LaidOut, e)) (⊎-elim (λ e. (NoLayout, e)) (λ e. (Stopped, e))) (window-ends (record { bytes = bytes; acceptable = a .2; stamped = h })),
+)
+
+-- demand 3: "A search that finishes does so at every larger allowance too, and all finished searches of one filing are alike", whatever was lent held before
+pub window-alike : {s : List ℕ} {n : ℕ} {l : List Item} {b b′ : ℕ} {plan plan′ old old′ : List ℕ} {w w′ : WindowCall} →
+    Call s n l b plan old w → Call s n l b′ plan′ old′ w′ → b ≤ b′ → ¬ Reports w Stopped → Alike n w w′
+window-alike {n} c d k f =
+    let a = promises.larger-alike (call c) (call d) k (λ e. f (reported c e)) in
+    record {
+      number = ap (λ (u : WindowCall). u .number) (window-searches d .1) ∙ ap (λ (u : Searching). searchingReceipt u .number) (a .answer)
+          ∙ sym (ap (λ (u : WindowCall). u .number) (window-searches c .1));
+      count = count-is d ∙ ap (λ (u : Searching). searchingReceipt u .count) (a .answer) ∙ sym (count-is c);
+      plan = ap (take n) (plan-is d) ∙ a .plan ∙ sym (ap (take n) (plan-is c));
+    }
