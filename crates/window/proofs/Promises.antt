@@ -286,14 +286,22 @@ window-accepts {s} h bytes = (
   λ a. ⊎-elim (λ e. (LaidOut, e)) (⊎-elim (λ e. (NoLayout, e)) (λ e. (Stopped, e))) (window-ends (record { bytes = bytes; acceptable = a .2; stamped = h })),
 )
 
--- demand 3: "A search that finishes does so at every larger allowance too, and all finished searches of one filing are alike", whatever was lent held before
-pub window-alike : {s : List ℕ} {n : ℕ} {l : List Item} {b b′ : ℕ} {plan plan′ old old′ : List ℕ} {w w′ : WindowCall} →
-    Call s n l b plan old w → Call s n l b′ plan′ old′ w′ → b ≤ b′ → ¬ Reports w Stopped → Alike n w w′
-window-alike {n} c d k f =
-    let a = promises.larger-alike (call c) (call d) k (λ e. f (reported c e)) in
-    record {
-      number = ap (λ (u : WindowCall). u .number) (window-searches d .1) ∙ ap (λ (u : Searching). searchingReceipt u .number) (a .answer)
-          ∙ sym (ap (λ (u : WindowCall). u .number) (window-searches c .1));
-      count = count-is d ∙ ap (λ (u : Searching). searchingReceipt u .count) (a .answer) ∙ sym (count-is c);
-      plan = ap (take n) (plan-is d) ∙ a .plan ∙ sym (ap (take n) (plan-is c));
-    }
+-- demand 3: "whatever the plan and the trail held before", and whatever the strip's chapters: its groups are the filing ------------------------------
+
+module _ {s s′ : List ℕ} {n : ℕ} {l l′ : List Item} {b b′ : ℕ} {plan plan′ old old′ : List ℕ} {w w′ : WindowCall}
+    (c : Call s n l b plan old w) (d : Call s′ n l′ b′ plan′ old′ w′) (same : groups l′ ≡ groups l) where
+  alike : search.Alike n (found c) (found d) → Alike n w w′
+  alike a = record {
+    number = reported d (ap (λ (u : Searching). searchingReceipt u .number) (a .answer) ∙ reports c refl);
+    count = count-is d ∙ ap (λ (u : Searching). searchingReceipt u .count) (a .answer) ∙ sym (count-is c);
+    plan = ap (take n) (plan-is d) ∙ a .plan ∙ sym (ap (take n) (plan-is c));
+  }
+
+  -- "A search that finishes does so at every larger allowance too"
+  pub window-alike : b ≤ b′ → ¬ Reports w Stopped → Alike n w w′
+  window-alike k f = alike (rw same (promises.larger-alike (call c) (rw same at (call d)) k (λ e. f (reported c e))))
+
+  -- "all finished searches of one filing are alike in the outcome, the count, the first n of the plan"
+  pub window-finished-alike : ¬ Reports w Stopped → ¬ Reports w′ Stopped → Alike n w w′
+  window-finished-alike f g =
+      alike (rw same (promises.finished-alike (call c) (rw same at (call d)) (λ e. f (reported c e)) (λ e. g (reported d (rw same e)))))
