@@ -6,15 +6,15 @@ use mathlib.Core.Bool.{true}
 use mathlib.Core.Logic.{_⊎_, inl, inr, ⊎-elim, _↔_}
 use mathlib.Core.List.{List, [], _∷_, _++_, map, List·Memᴰ, List·Memᴰ·head, List·Memᴰ·tail}
 use Prim.Native.Nat.{ℕ, zero, suc, _+_, _≤_, _<_, min}
-use native.Mathlib.Decide.{decLe, decLt}
+use native.Mathlib.Decide.{decLt}
 use native.Mathlib.Omega.{arith}
-use borrow.Author.Tests.{lt-ltb, le-ltb}
+use borrow.Author.Tests.{le-ltb}
 use lib.IntN.{ℤ, pos as posℤ}
 use lib.ListN.{length, take, drop, replicate, length-map, length-append, length-replicate}
 use Rattle.general.specs.Booleans.{bit}
 use Rattle.literal.specs.declared.Literal.{Literal}
 use Rattle.literal.specs.declared.Literal.the-variants.{Pos, Neg}
-use Rattle.literal.specs.Literal.{var, entryOf, maxVariables, maxClauses, maxLiterals, maxTable}
+use Rattle.literal.specs.Literal.{var, entryOf, maxVariables, maxTable}
 use Rattle.receipt.specs.declared.Fault.the-variants.{PlanShort, ReceiptShort, TableShort}
 use Rattle.receipt.specs.declared.Outcome.{Outcome}
 use Rattle.receipt.specs.declared.Outcome.the-variants.{LaidOut, NoLayout, Stopped}
@@ -23,11 +23,11 @@ use Rattle.receipt.specs.declared.Reading.the-variants.{Read, Refused}
 use Rattle.receipt.specs.declared.Receipt.{Receipt}
 use Rattle.receipt.specs.declared.Refusal.{Refusal}
 use Rattle.receipt.specs.declared.Searching.{Searching}
-use Rattle.receipt.specs.Receipt.{numberOf, outcomeNumber, refusal, refusedReceipt}
+use Rattle.receipt.specs.Receipt.{numberOf, outcomeNumber, refusal}
 use Rattle.receipt.specs.Answers.{searchingReceipt}
 use Rattle.receipt.proofs.Numbers.{answers, not-refused}
 use Rattle.theory.specs.Bound.{N}
-use Rattle.theory.specs.Calls.{over, SearchCall, searchRefused, searchCall, solveRead, solveCall, receiptLength, receiptBytes, WindowCall, written, windowCall}
+use Rattle.theory.specs.Calls.{over, SearchCall, searchRefused, searchCall, readCall, solveCall, receiptLength, receiptBytes, WindowCall, written, windowCall}
 use Rattle.theory.specs.Encoding.{Item, groups, tableOf, entries, StripWithin, Bytes}
 use Rattle.theory.specs.Formula.{Clause, Formula, Choice, push, clauses, Solution}
 use Rattle.theory.specs.Order.{_≼_, Least}
@@ -37,7 +37,6 @@ use Rattle.theory.proofs.Tables.{accepted-sizes}
 use Rattle.strip.proofs.Accepted.{read-accepted}
 use Rattle.strip.proofs.Ends.{Ended, answered}
 use Rattle.strip.proofs.Promises.{within-reads, accepted-exactly}
-use Rattle.theory.specs.Calls.{readCall}
 use Rattle.search.specs.Call as search
 use Rattle.search.proofs.Calling.{call-plan-short}
 use Rattle.search.proofs.Promises as promises
