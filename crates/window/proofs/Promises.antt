@@ -279,8 +279,8 @@ window-accepts {s} h bytes = (
   λ r. ⊎-elim
       (λ t. absurd (turned-unanswered h t (r .0) (r .1)))
       (λ a.
-          let l = strip-exactly s bytes (a .0) (a .1) (replicate maxTable (posℤ 0)) (length-replicate maxTable (posℤ 0)) (a .2) in
-          (a .0, l .0, record { strip = l .1; plan-room = a .3 }))
+      let l = strip-exactly s bytes (a .0) (a .1) (replicate maxTable (posℤ 0)) (length-replicate maxTable (posℤ 0)) (a .2) in
+      (a .0, l .0, record { strip = l .1; plan-room = a .3 }))
       (fate h),
   λ a. ⊎-elim (λ e. (LaidOut, e)) (⊎-elim (λ e. (NoLayout, e)) (λ e. (Stopped, e))) (window-ends (record { bytes = bytes; acceptable = a .2; stamped = h })),
 )
