@@ -9,6 +9,7 @@ use native.Mathlib.Omega.{arith}
 use lib.IntN.{ℤ}
 use lib.ListN.{length, drop, take-append-drop}
 use Rattle.general.specs.Booleans.{bit}
+use Rattle.general.specs.Lists.{set-after}
 use Rattle.literal.specs.declared.Literal.{Literal}
 use Rattle.literal.specs.declared.Literal.the-variants.{Pos, Neg}
 use Rattle.literal.specs.Literal.{TRUE, FALSE, entryOf}
@@ -21,7 +22,6 @@ use Rattle.theory.specs.Tree.{Found, Run, run, visit, tree, Result, finish, sto
 use Rattle.theory.specs.Calls.{over}
 use Rattle.theory.proofs.Budget.{limited-enough, limited-short, count-min, limited-nothing, past, split-none, split-first, split-second}
 use Rattle.theory.proofs.Demands.{tree-step}
-use Rattle.search.proofs.Lists.{set-after}
 use Rattle.search.specs.Walk.{Walked, walked, walkOf, counted, noted}
 
 -- the count of a walk is within its allowance
