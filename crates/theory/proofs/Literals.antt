@@ -24,9 +24,6 @@ pub opposite-ne : (l : Literal) → opposite l ≢ l
 opposite-ne (Pos p) e = let z : _≡_ {A = ℕ} 0 1 = cc in omega arith
 opposite-ne (Neg p) e = let z : _≡_ {A = ℕ} 0 1 = cc in omega arith
 
-pub opposite-injective : (x y : Literal) → opposite x ≡ opposite y → x ≡ y
-opposite-injective x y e = sym (opposite-opposite x) ∙ ap opposite e ∙ opposite-opposite y
-
 pub same-true : (x y : Literal) → same x y ≡ true → x ≡ y
 same-true (Pos p) (Pos q) e = ap Pos (eqb-true p q e)
 same-true (Pos p) (Neg q) e = absurd (true-not-false e refl)
