@@ -3,7 +3,7 @@ use mathlib.Core.Path.{_≡_, refl, sym, _∙_}
 use mathlib.Core.List.{List}
 use mathlib.Core.Bool.{true, false}
 use mathlib.Core.Option.{some}
-use Prim.Native.Nat.{ℕ, suc, _+_, _<_, _≤_}
+use Prim.Native.Nat.{ℕ, _+_, _<_, _≤_}
 use native.Mathlib.Omega.{arith}
 use lib.IntN.{ℤ}
 use mir.Syntax.{w32}
@@ -69,17 +69,18 @@ module _ {t : List ℤ} {n : ℕ} {v : List ℕ} {d : ℕ} {plan : List ℕ} {tr
         (plan′ : List ℕ) (trail′ : List ℤ) → length plan′ ≡ length plan → length trail′ ≡ length trail →
         (opens (stateOf w) n < opens (stateOf v) n) × Walkable t n w (d + 1) plan′ trail′
     side-walkable x z w e r plan′ trail′ lp lt =
-        let s : Side n (stateOf v) (stateOf w) = rw e (side (k .well) o x z) in
-        (omega (arith, s .closes),
-        record {
-          ready = record { readable = k .ready .readable; range = r };
-          within = k .within;
-          well = s .well;
-          small = k .small;
-          plan-room = omega (arith, k .plan-room);
-          trail-room = omega (arith, k .trail-room);
-          deep = omega (arith, k .deep, s .closes);
-        })
+        let s : Side n (stateOf v) (stateOf w) = rw e (side (k .well) o x z) in (
+          omega (arith, s .closes),
+          record {
+            ready = record { readable = k .ready .readable; range = r };
+            within = k .within;
+            well = s .well;
+            small = k .small;
+            plan-room = omega (arith, k .plan-room);
+            trail-room = omega (arith, k .trail-room);
+            deep = omega (arith, k .deep, s .closes);
+          },
+        )
 
     pub side-passable : (count splits left : ℕ) → splits + count ≤ left → Fits w32 left → (x : Literal) → var x ≡ p → (trail′ : List ℤ) → length trail′ ≡ length trail →
         Passable count splits x d trail′

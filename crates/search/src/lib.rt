@@ -8,13 +8,12 @@ ghost use Rattle.general.specs.Booleans.{bit};
 ghost use Rattle.literal.specs.Literal.{var, maxVariables};
 ghost use Rattle.theory.specs.Formula.{clauses, holds};
 ghost use Rattle.theory.specs.State.{Open};
-ghost use Rattle.theory.specs.Tree.{limited};
 ghost use Rattle.theory.specs.Search.{onlyConstant, lowest, branchVariable, choiceOf};
 ghost use Rattle.theory.specs.Calls.{over, searchCall};
 ghost use Rattle.state.specs.State.{stateOf};
 ghost use Rattle.clause.specs.Reading.{Ready, clauseAt};
 ghost use Rattle.search.specs.Branch.{branchOf, lowerOf};
-ghost use Rattle.search.specs.Walk.{Walkable, treeAt, splitAt, walked, walkOf, Passable, counted, noted};
+ghost use Rattle.search.specs.Walk.{Walkable, walked, treeWalk, splitWalk, Passable, counted, noted};
 ghost use Rattle.search.specs.Call.{called};
 use clause::Next;
 use literal::Literal;
@@ -54,7 +53,12 @@ fn lower(found: Branch, p: Variable) -> Branch
 }
 
 // The lowest of what was found and the variables that stand in the clause at `from`.
-fn lowest_at(table: &[i16], values: &[u16; Literal::VARIABLES], from: usize, found: Branch) -> Branch
+fn lowest_at(
+    table: &[i16],
+    values: &[u16; Literal::VARIABLES],
+    from: usize,
+    found: Branch,
+) -> Branch
     requires { ⌜ Ready (now table) (now values) ⌝ }
     ensures { λ r. ⌜ branchOf r ≡ lowerOf (branchOf found) (lowest (map var (clauseAt (now (table .entry)) (now (values .entry)) from))) ⌝ }
 {
@@ -93,20 +97,8 @@ fn chosen(x: Literal) -> u8
     ensures { λ r. ⌜ r ≡ bit (holds onlyConstant x) ⌝ }
 {
     match x {
-        Literal::Pos(p) => {
-            if p == 0 {
-                1
-            } else {
-                0
-            }
-        }
-        Literal::Neg(p) => {
-            if p == 0 {
-                0
-            } else {
-                1
-            }
-        }
+        Literal::Pos(p) => { if p == 0 { 1 } else { 0 } }
+        Literal::Neg(p) => { if p == 0 { 0 } else { 1 } }
     }
 }
 
@@ -132,7 +124,7 @@ fn settle_and_decide(
     trail: &mut [i16],
 ) -> Walk
     requires { ⌜ Walkable (now table) n (state .values) depth (now plan) (now trail) ⌝ }
-    ensures { λ r. ⌜ walked r (now (plan .exit)) (now (trail .exit)) ≡ walkOf n depth (limited left (treeAt n (now (table .entry)) (state .values))) (now (plan .entry)) (now (trail .entry)) ⌝ }
+    ensures { λ r. ⌜ walked r (now (plan .exit)) (now (trail .exit)) ≡ treeWalk n (now (table .entry)) (state .values) left depth (now (plan .entry)) (now (trail .entry)) ⌝ }
 {
     let settled = propagate::propagate(table, n, state);
     if settled.dead {
@@ -166,7 +158,7 @@ fn split(
 ) -> Walk
     requires { ⌜ Walkable (now table) n (state .values) depth (now plan) (now trail) ⌝ }
     requires { ⌜ Open n (stateOf (state .values)) (p .0) ⌝ }
-    ensures { λ r. ⌜ walked r (now (plan .exit)) (now (trail .exit)) ≡ walkOf n depth (limited left (splitAt n (now (table .entry)) (state .values) (p .0))) (now (plan .entry)) (now (trail .entry)) ⌝ }
+    ensures { λ r. ⌜ walked r (now (plan .exit)) (now (trail .exit)) ≡ splitWalk n (now (table .entry)) (state .values) (p .0) left depth (now (plan .entry)) (now (trail .entry)) ⌝ }
 {
     if left == 0 {
         return Walk {
@@ -229,8 +221,5 @@ pub fn search(
     let walk = settle_and_decide(table, n, state::initial(), allowance, 0, plan, trail);
     let outcome = walk.outcome;
     let count = walk.count;
-    Searching::Ended {
-        outcome,
-        count,
-    }
+    Searching::Ended { outcome, count }
 }

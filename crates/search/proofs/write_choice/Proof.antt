@@ -28,7 +28,7 @@ unfolding choiceOf
 at n s i h = sym (
     List·getD-map bit (choiceOf n s) i false ∙ ap bit (getD-from (λ p. holds onlyConstant (s p)) 1 n i false h) ∙
     ap (λ (p : ℕ). bit (holds onlyConstant (s p))) (omega arith)
-)
+    )
 
 abbrev Inv-loop : tie.InvT-loop
 Inv-loop plan₀ n state i₀ new i = Writing 0 n (plan n (stateOf (state .values))) plan₀ new i
