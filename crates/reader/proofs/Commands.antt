@@ -14,6 +14,7 @@ use lib.ListN.{length, getD, drop, length-append, length-drop}
 use lib.Seq.{drop-cons, drop-drop, drop-append-seam, getD-drop}
 use Rattle.general.specs.Booleans.{cond-ind}
 use Rattle.general.specs.Search.{find, find-some}
+use Rattle.receipt.specs.declared.Fault.the-variants.{TableShort}
 use Rattle.receipt.specs.declared.Refusal.{Refusal}
 use Rattle.receipt.specs.Receipt.{numberOf}
 use Rattle.theory.specs.declared.Mark.{Mark}
@@ -69,7 +70,7 @@ same-refl After = refl
 
 -- 23 is no refusal of a command
 abbrev pub NotShort : Refusal → Type 0
-NotShort f = numberOf (f .fault) ≢ 23
+NotShort f = numberOf (f .fault) ≢ numberOf TableShort
 
 module _ (s : List ℕ) (i : ℕ) where
   pub record Stands (t : Turn) (m : Mark) (v next : ℕ) : Type 0 where

@@ -14,6 +14,7 @@ use Rattle.general.specs.Booleans.{true-not-false, cond-ind}
 use Rattle.literal.specs.declared.Literal.{Literal}
 use Rattle.literal.specs.declared.Literal.the-variants.{Pos, Neg}
 use Rattle.literal.specs.Literal.{var, entryOf, maxVariables, maxClauses, maxLiterals}
+use Rattle.receipt.specs.declared.Fault.the-variants.{TableShort}
 use Rattle.receipt.specs.Receipt.{numberOf}
 use Rattle.theory.specs.declared.Mark.{Mark}
 use Rattle.theory.specs.declared.Mark.the-variants.{Placements, Chapter, Opens, Taken, LeftOut, Closes, Ends}
@@ -87,7 +88,7 @@ module _ (s : List ℕ) where
   -- what obeying a mark at index i says of the strip from next on
   abbrev pub Keeps : ℕ → ℕ → Progress → List ℤ → Turn → Obeyed → Type 0
   Keeps i next p t u (Goes q e) = Sound q (length t + elements e) × ((n : ℕ) (T : List ℤ) → Left next (q .turn) q (with t e) n T → Left i u p t n T)
-  Keeps i next p t u (Refused why) = numberOf why ≢ 23
+  Keeps i next p t u (Refused why) = numberOf why ≢ numberOf TableShort
 
 closed-range : (n : ℕ) (f : Formula) → InRange n f → InRange n ([] ∷ f)
 closed-range n f h c l mc ml = ⊎-elim (λ (q : c ≡ []). absurd (List·Memᴰ·not-nil (rw q at ml))) (λ m. h c l m ml) (List·Memᴰ·cases-cons mc)

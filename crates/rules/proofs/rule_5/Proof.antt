@@ -1,6 +1,5 @@
 -- `rule_5` meets its contract.
-use mathlib.Core.Path.{_≡_, sym, ap, _∙_}
-use mathlib.Core.Bool.{Bool, true, false}
+use mathlib.Core.Path.{_≡_, _∙_}
 use mathlib.Core.Option.{none, some, bind}
 use borrow.Author.Needs.{needs}
 use Rattle.general.specs.Booleans.{cond-same}

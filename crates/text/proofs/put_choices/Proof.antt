@@ -19,7 +19,6 @@ loop-again c =
     let turn = put .before .before .before in
     list-turned decimal 4 _ _ _ (turn .before .loop .inv) 0 (turn .loop-test .taken) (put .put-byte .kept .0) (put .put-byte .ensures .1) (put .put-byte .ensures .0)
 
-
 returns : tie.Need-returns Inv-loop μ-loop
 returns c =
     let l = c .before .loop in

@@ -24,7 +24,6 @@ loop-again c =
     list-turned signed 7 _ _ _ (turn .before .loop .inv) (pos 0) (turn .loop-test .taken) (put .put-entry .kept .0) (put .put-entry .ensures .1)
     (entry-read e (record { sfits = put .before .put-entry-arg2 .given }) (put .put-entry .ensures .0))
 
-
 returns : tie.Need-returns Inv-loop μ-loop
 returns c =
     let l = c .before .loop in
