@@ -46,7 +46,7 @@ ruleAt t v (Pair p g) = pairRule p (clauseAt t v g)
 abbrev pub asksAt : List ℤ → List ℕ → Rule → ℕ → Option Step
 asksAt t v rule i = ruleAt t v rule (clauseAt t v i)
 
--- rules 2 and 4, and the end of 5: where n are true, the first literal that passes becomes false
+-- rules 2 and 4: where n are true, the first literal that passes becomes false
 abbrev pub falseWhere : ℕ → Test → Clause → Option Step
 falseWhere n test c = when (eqb (occurs TRUE c) n) (becomesFalse (find (passes test c) c))
 

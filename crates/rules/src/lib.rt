@@ -92,7 +92,7 @@ fn rule_3(table: &[i16], values: &[u16; Literal::VARIABLES], from: usize) -> Fit
     }
 }
 
-// Rules 2 and 4, and the end of 5: where so many are true, the first literal that passes becomes false.
+// Rules 2 and 4: where so many are true, the first literal that passes becomes false.
 fn false_where(
     table: &[i16],
     values: &[u16; Literal::VARIABLES],
@@ -115,12 +115,15 @@ fn rule_5(table: &[i16], values: &[u16; Literal::VARIABLES], from: usize) -> Fit
     requires { ⌜ Ready (now table) (now values) ⌝ }
     ensures { λ r. ⌜ fit r ≡ rule5 (clauseAt (now (table .entry)) (now (values .entry)) from) ⌝ }
 {
+    if clause::times_at(table, values, from, Literal::TRUE) != 0 {
+        return Fit::Nothing;
+    }
     let counts = clause::counts_at(table, values, from);
     let complementary = clause::first_that(table, values, from, &counts, Test::Opposed);
-    match complementary {
-        Found::Nothing => Fit::Nothing,
-        Found::At(x) => false_where(table, values, from, 0, Test::Apart(x)),
-    }
+    let Found::At(x) = complementary else {
+        return Fit::Nothing;
+    };
+    becomes_false(clause::first_that(table, values, from, &counts, Test::Apart(x)))
 }
 
 // 6. None true, two open entries of different placements and nothing else: tie the higher placement to the lower.
