@@ -1,5 +1,5 @@
 -- Counting the literals of a clause, one after the other.
-use mathlib.Core.Path.{_≡_, sym, _∙_}
+use mathlib.Core.Path.{_≡_, ap, sym, _∙_}
 use mathlib.Core.List.{List, [], _∷_}
 use Prim.Native.Nat.{ℕ, _+_, _<_, _≤_}
 use native.Mathlib.Decide.{ℕ-discrete}
@@ -52,8 +52,10 @@ module _ {v : List ℕ} {n : ℕ} {rest whole : Clause} (k : Counting v n rest w
       | no q ↦ rw (getD-set-other v (codeOf y) c (getD v (codeOf y) 0 + 1) 0 q) (omega (arith, k .low c d))
     ];
     each = λ x d. elim (ℕ-discrete (codeOf x) (codeOf y)) [
-      | yes q ↦ rw (q, more) (omega (arith, rw q at (k .each x d), rw (sym (same-code y x) ∙ eq-eqb (codeOf y) (codeOf x) (sym q)) at (occurs-front x e)))
-      | no q ↦ rw (getD-set-other v (codeOf y) (codeOf x) (getD v (codeOf y) 0 + 1) 0 q) (omega (arith, k .each x d, rw (sym (same-code y x) ∙ ne-eqb (codeOf y) (codeOf x) (λ z. q (sym z))) at (occurs-front x e)))
+      | yes q ↦ rw (q, more) (omega (arith, rw q at (k .each x d), occurs-front x e, ap bit (sym (same-code y x) ∙ eq-eqb (codeOf y) (codeOf x) (sym q))))
+      | no q ↦
+          rw (getD-set-other v (codeOf y) (codeOf x) (getD v (codeOf y) 0 + 1) 0 q)
+          (omega (arith, k .each x d, occurs-front x e, ap bit (sym (same-code y x) ∙ ne-eqb (codeOf y) (codeOf x) (λ z. q (sym z)))))
     ];
   }
     where

@@ -1,5 +1,5 @@
 -- A loop over the elements of a clause: what stands from an index on is what the element there adds to what stands from the next one on.
-use mathlib.Core.Path.{_≡_, refl, ap, sym, _∙_}
+use mathlib.Core.Path.{_≡_, refl, sym, _∙_}
 use mathlib.Core.Bool.{true, false}
 use mathlib.Core.List.{List, [], _∷_}
 use mathlib.Core.Logic.{_≢_}
@@ -51,7 +51,7 @@ module _ (t : List ℤ) (i : ℕ) where
     clause-here h e = rw (drop-next t i (posℤ 0) h, front-zero (getD t i (posℤ 0)) (drop (i + 1) t) e .0)
 
     -- one more literal, unless it is false
-    pub clause-next : i < length t → natAbs (getD t i (posℤ 0)) ≢ 0 →
+    clause-next : i < length t → natAbs (getD t i (posℤ 0)) ≢ 0 →
         clauseAt t v i ≡ stand (value (stateOf v) (literalOf (getD t i (posℤ 0)))) (clauseAt t v (i + 1))
     unfolding standing
     clause-next h e = rw (drop-next t i (posℤ 0) h, front-entry (getD t i (posℤ 0)) (drop (i + 1) t) e .0)

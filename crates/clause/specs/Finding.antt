@@ -1,11 +1,16 @@
 -- The first literal of a clause that passes a test.
+use mathlib.Core.Path.{_≡_}
 use mathlib.Core.Bool.{Bool, _&&_}
+use mathlib.Core.List.{List}
 use mathlib.Core.Option.{Option, none, some}
+use Prim.Native.Nat.{ℕ}
 use lib.Dec.{leb}
+use Rattle.general.specs.Search.{find}
 use Rattle.literal.specs.declared.Literal.{Literal}
 use Rattle.literal.specs.Literal.{opposite, isOpen}
 use Rattle.theory.specs.Formula.{Clause}
 use Rattle.theory.specs.Rules.{occurs, stands, differ}
+use Rattle.clause.specs.Reading.{CountsOf}
 use Rattle.clause.specs.declared.Found.{Found}
 use Rattle.clause.specs.declared.Found.the-variants.{Nothing, At}
 use Rattle.clause.specs.declared.Test.{Test}
@@ -23,3 +28,7 @@ passes Common c x = stands x c
 passes Opposed c x = stands (opposite x) c
 passes (Apart y) c x = differ y x
 passes (Partner y) c x = stands (opposite x) c && differ y x
+
+-- the first literal of d that passes beside the clause that an array counts
+abbrev pub FirstThat : Test → List ℕ → Clause → Found → Type 0
+FirstThat test k d r = (c : Clause) → CountsOf k c → found r ≡ find (passes test c) d

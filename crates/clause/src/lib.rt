@@ -2,12 +2,11 @@
 ghost use mathlib.Core.Path.{_≡_};
 ghost use Prim.Native.Nat.{_+_, _≤_};
 ghost use lib.ListN.{length, drop};
-ghost use Rattle.general.specs.Search.{find};
 ghost use Rattle.literal.specs.Literal.{var, maxVariables};
 ghost use Rattle.theory.specs.Formula.{Clause};
 ghost use Rattle.theory.specs.Rules.{occurs, differ, live};
 ghost use Rattle.clause.specs.Reading.{Ready, groupLength, clauseAt, NextOf, CountsOf};
-ghost use Rattle.clause.specs.Finding.{found, passes};
+ghost use Rattle.clause.specs.Finding.{passes, FirstThat};
 use literal::Literal;
 
 // The next literal that stands in a clause, and the index after it.
@@ -146,7 +145,7 @@ pub fn first_that(
     test: Test,
 ) -> Found
     requires { ⌜ Ready (now table) (now values) ⌝ }
-    ensures { λ r. ⌜ ((c : Clause) → CountsOf (now (counts .entry)) c → found r ≡ find (passes test c) (clauseAt (now (table .entry)) (now (values .entry)) from)) ⌝ }
+    ensures { λ r. ⌜ FirstThat test (now (counts .entry)) (clauseAt (now (table .entry)) (now (values .entry)) from) r ⌝ }
 {
     let mut i = from;
     loop {

@@ -2,7 +2,7 @@
 use mathlib.Core.Path.{_≡_, refl}
 use mathlib.Core.Logic.{_⊎_, inl, inr}
 use mathlib.Core.Bool.{Bool, true, false, not, _&&_, _||_, cond}
-use Prim.Native.Nat.{ℕ, zero, suc, _+_, _≤_}
+use Prim.Native.Nat.{ℕ, _+_}
 use native.Mathlib.Omega.{arith}
 
 -- true counts one
@@ -10,23 +10,12 @@ abbrev pub bit : Bool → ℕ
 bit true = 1
 bit false = 0
 
-pub bit-le : (b : Bool) → bit b ≤ 1
-bit-le true = omega arith
-bit-le false = omega arith
-
 pub bool-cases : (b : Bool) → (b ≡ true) ⊎ (b ≡ false)
 bool-cases true = inl refl
 bool-cases false = inr refl
 
 pub true-not-false : {b : Bool} → b ≡ true → b ≡ false → ⊥
 true-not-false p q = let z : _≡_ {A = Bool} true false = cc in let w : _≡_ {A = ℕ} 0 1 = cc in omega arith
-
-pub bit-true : {b : Bool} → bit b ≡ 1 → b ≡ true
-bit-true {b} = go b
-  where
-    go : (b : Bool) → bit b ≡ 1 → b ≡ true
-    go true e = refl
-    go false e = absurd (omega arith)
 
 pub bit-not : (b : Bool) → bit b + bit (not b) ≡ 1
 bit-not true = refl

@@ -2,6 +2,5 @@ pub mod Booleans
 pub mod Lists
 pub mod Search
 pub mod Options
-pub mod Counting
 pub mod Runs
 pub mod Appending

@@ -1,10 +1,10 @@
--- Lists made from a function of the index, and the lists that `map` makes.
+-- Lists made from a function of the index, the lists that `map` makes, and lists made of parts.
 use mathlib.Core.Path.{_≡_, refl, ap, sym, _∙_}
-use mathlib.Core.Logic.{_⊎_, inl, inr, ⊎-elim}
-use mathlib.Core.List.{List, [], _∷_, map, List·Memᴰ, List·Memᴰ·head, List·Memᴰ·tail, List·Memᴰ·not-nil, List·Memᴰ·cases-cons}
-use Prim.Native.Nat.{ℕ, zero, suc, _+_, _≤_, _<_}
+use mathlib.Core.Logic.{⊎-elim}
+use mathlib.Core.List.{List, [], _∷_, _++_, map, List·Memᴰ, List·Memᴰ·head, List·Memᴰ·tail, List·Memᴰ·not-nil, List·Memᴰ·cases-cons}
+use Prim.Native.Nat.{ℕ, zero, suc, _+_, _-_, _≤_, _<_}
 use native.Mathlib.Omega.{arith}
-use lib.ListN.{length, getD}
+use lib.ListN.{length, getD, take, drop, set, replicate}
 
 module _ {A : Type 0} (g : ℕ → A) where
   -- g at k, k + 1, .., n values in all
@@ -49,3 +49,15 @@ module _ {A : Type 0} where
   pub before-right : {x y : A} {l : List A} → Before x y l → List·Memᴰ y l
   before-right (here m) = List·Memᴰ·tail m
   before-right (later b) = List·Memᴰ·tail (before-right b)
+
+-- an element stored at the seam of two parts, and the rest of equal values
+module _ {A : Type 0} where
+  pub set-after : (d : ℕ) (e : A) (t l : List A) → d < length t → set (take (suc d) t ++ l) d e ≡ take d t ++ (e ∷ l)
+  set-after d e [] l h = absurd (omega arith)
+  set-after zero e (y ∷ t) l h = refl
+  set-after (suc d) e (y ∷ t) l h = ap (_∷_ y) (set-after d e t l (omega arith))
+
+  pub drop-replicate : (a : A) (m n : ℕ) → drop m (replicate n a) ≡ replicate (n - m) a
+  drop-replicate a zero n = let e : n - 0 ≡ n = omega arith in rw e
+  drop-replicate a (suc m) zero = let e : 0 - suc m ≡ 0 = omega arith in rw e
+  drop-replicate a (suc m) (suc n) = let e : suc n - suc m ≡ n - m = omega arith in rw e (drop-replicate a m n)

@@ -44,14 +44,8 @@ module _ {A B : Type 0} where
   bind-some none g b e = absurd (Option·none-ne-some b e)
   bind-some (some a) g b e = (a, refl, e)
 
--- an alternative is associative, and none on the right changes nothing
-module _ {A : Type 0} where
-  pub orElse-assoc : (o p q : Option A) → orElse (orElse o p) q ≡ orElse o (orElse p q)
-  unfolding orElse
-  orElse-assoc none p q = refl
-  orElse-assoc (some a) p q = refl
-
-  pub orElse-right : (o : Option A) → orElse o none ≡ o
-  unfolding orElse
-  orElse-right none = refl
-  orElse-right (some a) = refl
+-- an alternative is associative
+pub orElse-assoc : {A : Type 0} (o p q : Option A) → orElse (orElse o p) q ≡ orElse o (orElse p q)
+unfolding orElse
+orElse-assoc none p q = refl
+orElse-assoc (some a) p q = refl

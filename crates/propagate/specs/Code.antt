@@ -1,9 +1,17 @@
 -- What code answers as the step that is asked, and as the end of settling.
 use mathlib.Core.Bool.{cond}
+use mathlib.Core.List.{List}
 use mathlib.Core.Option.{Option, none, some}
+use Prim.Native.Nat.{ℕ}
+use lib.IntN.{ℤ}
 use Rattle.theory.specs.declared.Asked.{Asked}
+use Rattle.theory.specs.Propagation.{firstClause, firstPair}
 use Rattle.theory.specs.Propagation as theory
 use Rattle.state.specs.State.{stateOf}
+use Rattle.clause.specs.Reading.{clausesFrom}
+use Rattle.rules.specs.declared.PairRule.{PairRule}
+use Rattle.rules.specs.declared.Rule.{Rule}
+use Rattle.rules.specs.Rules.{pairRule, ruleAt}
 use Rattle.propagate.specs.declared.Answer.{Answer}
 use Rattle.propagate.specs.declared.Answer.the-variants.{Nothing, Asks}
 use Rattle.propagate.specs.declared.Settled.{Settled}
@@ -12,5 +20,13 @@ abbrev pub answer : Answer → Option Asked
 answer Nothing = none
 answer (Asks a) = some a
 
+-- what a rule asks of the clauses from an index on, of which the first has number k, and of the pairs of all clauses
+abbrev pub firstFrom : List ℤ → List ℕ → Rule → ℕ → ℕ → Option Asked
+firstFrom t v rule k i = firstClause (ruleAt t v rule) k (clausesFrom t v i)
+
+abbrev pub firstOfPairs : List ℤ → List ℕ → PairRule → Option Asked
+firstOfPairs t v rule = firstPair (pairRule rule) 1 (clausesFrom t v 0)
+
+-- at a dead end the state is free
 abbrev pub settled : Settled → theory.Settled
 settled r = cond (r .dead) theory.dead (theory.rest (stateOf (r .state .values)))

@@ -5,11 +5,10 @@ ghost use Prim.Native.Nat.{_+_, _≤_};
 ghost use Rattle.literal.specs.Literal.{maxVariables};
 ghost use Rattle.theory.specs.Formula.{clauses, Within};
 ghost use Rattle.theory.specs.State.{WellFormed};
-ghost use Rattle.theory.specs.Propagation.{firstClause, firstPair, step, settle};
+ghost use Rattle.theory.specs.Propagation.{step, settle};
 ghost use Rattle.state.specs.State.{stateOf, InRange};
-ghost use Rattle.clause.specs.Reading.{Ready, Begins, clausesFrom};
-ghost use Rattle.rules.specs.Rules.{pairRule, ruleAt};
-ghost use Rattle.propagate.specs.Code.{answer, settled};
+ghost use Rattle.clause.specs.Reading.{Ready, Begins};
+ghost use Rattle.propagate.specs.Code.{answer, firstFrom, firstOfPairs, settled};
 use literal::ClauseNumber;
 use literal::Literal;
 use rules::Fit;
@@ -25,7 +24,7 @@ pub enum Answer {
     Asks(Asked),
 }
 
-// Where settling ends. At a dead end the state is free: it is the one in which the dead end was met.
+// Where settling ends. At a dead end the state is free: code leaves the one in which the dead end was met.
 pub struct Settled {
     pub dead: bool,
     pub state: State,
@@ -42,7 +41,7 @@ fn first_clause(
     requires { ⌜ Ready (now table) (now values) ⌝ }
     requires { ⌜ Begins (now table) from ⌝ }
     requires { ⌜ clause .0 ≤ from + 1 ⌝ }
-    ensures { λ r. ⌜ answer r ≡ firstClause (ruleAt (now (table .entry)) (now (values .entry)) rule) (clause .0) (clausesFrom (now (table .entry)) (now (values .entry)) from) ⌝ }
+    ensures { λ r. ⌜ answer r ≡ firstFrom (now (table .entry)) (now (values .entry)) rule (clause .0) from ⌝ }
 {
     let mut k = clause.0;
     let mut i = from;
@@ -63,7 +62,7 @@ fn first_clause(
 // The first pair that rule 7 or 8 fits. No pair of a clause that is not live does.
 fn first_pair(table: &[i16], values: &[u16; Literal::VARIABLES], rule: PairRule) -> Answer
     requires { ⌜ Ready (now table) (now values) ⌝ }
-    ensures { λ r. ⌜ answer r ≡ firstPair (pairRule rule) 1 (clausesFrom (now (table .entry)) (now (values .entry)) 0) ⌝ }
+    ensures { λ r. ⌜ answer r ≡ firstOfPairs (now (table .entry)) (now (values .entry)) rule ⌝ }
 {
     let mut k: u16 = 1;
     let mut g = 0;
@@ -95,7 +94,7 @@ fn else_clause(
     rule: Rule,
 ) -> Answer
     requires { ⌜ Ready (now table) (now values) ⌝ }
-    ensures { λ r. ⌜ answer r ≡ orElse (answer lower) (firstClause (ruleAt (now (table .entry)) (now (values .entry)) rule) 1 (clausesFrom (now (table .entry)) (now (values .entry)) 0)) ⌝ }
+    ensures { λ r. ⌜ answer r ≡ orElse (answer lower) (firstFrom (now (table .entry)) (now (values .entry)) rule 1 0) ⌝ }
 {
     match lower {
         Answer::Nothing => first_clause(table, values, rule, 0, ClauseNumber(1)),
@@ -111,7 +110,7 @@ fn else_pair(
     rule: PairRule,
 ) -> Answer
     requires { ⌜ Ready (now table) (now values) ⌝ }
-    ensures { λ r. ⌜ answer r ≡ orElse (answer lower) (firstPair (pairRule rule) 1 (clausesFrom (now (table .entry)) (now (values .entry)) 0)) ⌝ }
+    ensures { λ r. ⌜ answer r ≡ orElse (answer lower) (firstOfPairs (now (table .entry)) (now (values .entry)) rule) ⌝ }
 {
     match lower {
         Answer::Nothing => first_pair(table, values, rule),

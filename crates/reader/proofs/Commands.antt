@@ -14,6 +14,7 @@ use lib.ListN.{length, getD, drop, length-append, length-drop}
 use lib.Seq.{drop-cons, drop-drop, drop-append-seam, getD-drop}
 use Rattle.general.specs.Booleans.{cond-ind}
 use Rattle.general.specs.Search.{find, find-some}
+use Rattle.receipt.specs.declared.Fault.the-variants.{TableShort}
 use Rattle.receipt.specs.declared.Refusal.{Refusal}
 use Rattle.receipt.specs.Receipt.{numberOf}
 use Rattle.theory.specs.declared.Mark.{Mark}
@@ -69,7 +70,7 @@ same-refl After = refl
 
 -- 23 is no refusal of a command
 abbrev pub NotShort : Refusal → Type 0
-NotShort f = numberOf (f .fault) ≢ 23
+NotShort f = numberOf (f .fault) ≢ numberOf TableShort
 
 module _ (s : List ℕ) (i : ℕ) where
   pub record Stands (t : Turn) (m : Mark) (v next : ℕ) : Type 0 where
@@ -100,6 +101,9 @@ module _ (s : List ℕ) (i : ℕ) where
           })
           (λ b. (refl, λ z. omega arith)))
           (λ a. (refl, λ z. omega arith))
+
+  pub command-stands : {t : Turn} {m : Mark} {v next : ℕ} → command.Command m v next ≡ commandAt s i t → Stands t m v next
+  command-stands {t = t} e = rw (← e) at (command-says t)
 
   next-byte : (j : ℕ) → j < length s → drop j s ≡ getD s j 0 ∷ drop (j + 1) s
   next-byte j h = rw (add-one, ← drop-cons s j 0)

@@ -107,11 +107,7 @@ fn command_of(strip: &[u8], at: usize, turn: Turn, mark: Mark) -> Command
     if !whole {
         return Command::Refused(Refusal::new(Fault::CutStrip, at));
     }
-    Command::Command {
-        mark,
-        operand: operand_at(strip, at, size),
-        next: at + 1 + size,
-    }
+    Command::Command(mark, operand_at(strip, at, size), at + 1 + size)
 }
 
 // The command at an index of the strip: 20, where its byte is no mark.

@@ -1,1 +1,4 @@
 pub mod Lines
+pub mod Reports
+pub mod Input
+pub mod Examples

@@ -17,6 +17,12 @@ use receipt::Searching;
 // "allows 1,000,000 splits"
 const ALLOWANCE: u32 = 1000000;
 
+// One byte past the longest strip is enough to tell that a strip is too long.
+pub const INPUT: usize = 16385;
+
+// Enough for every report: an element of the plan takes at most a space and three digits, one of the trail a space, a sign and five digits.
+pub const PRINTED: usize = 4096;
+
 fn put_outcome(out: &mut [u8], at: usize, outcome: Outcome) -> usize
     requires { ⌜ at + 10 ≤ length (now out) ⌝ }
     ensures { λ r. ⌜ Appended (now (out .entry)) at (line (outcomeWords outcome) []) (now (out .exit)) r ⌝ }
@@ -87,8 +93,7 @@ fn put_search(out: &mut [u8], found: Searching, plan: &[u8], trail: &[i16]) -> u
     }
 }
 
-// 4,096 bytes are enough: an element of the plan takes at most a space and three digits, one of the trail a space, a sign and five digits.
-pub fn report(strip: &[u8], out: &mut [u8; 4096]) -> usize
+pub fn report(strip: &[u8], out: &mut [u8; PRINTED]) -> usize
     ensures text { λ r. ⌜ now (out .exit) ≡ over r (reportOf (now (strip .entry))) (now (out .entry)) ⌝ }
     ensures count { λ r. ⌜ Counts r (now (out .exit)) ⌝ }
     ensures length { λ r. ⌜ r ≡ length (reportOf (now (strip .entry))) ⌝ }
@@ -97,5 +102,6 @@ pub fn report(strip: &[u8], out: &mut [u8; 4096]) -> usize
     let mut trail = [0i16; Literal::MAX_VARIABLES];
     let solved = solve::solve(strip, ALLOWANCE, &mut plan, &mut trail);
     let n = solved.variables;
-    put_search(out, solved.answer, &plan[..n], &trail[..n])
+    let answer = solved.answer;
+    put_search(out, answer, &plan[..n], &trail[..n])
 }

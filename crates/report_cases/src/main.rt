@@ -4,7 +4,7 @@ ghost use Prim.Native.Nat.{_<_};
 ghost use lib.ListN.{length};
 
 fn show(strip: &[u8]) {
-    let mut out = [0u8; 4096];
+    let mut out = [0u8; report::PRINTED];
     let printed = report::report(strip, &mut out);
     io::write_all(1, &out[..printed]);
 }

@@ -1,5 +1,5 @@
 -- Rules 7 and 8 look at live clauses, and else ask what `pairStep` says.
-use mathlib.Core.Path.{_≡_, refl, ap}
+use mathlib.Core.Path.{_≡_, refl}
 use mathlib.Core.Bool.{Bool, true, false, not, _&&_, _||_, cond}
 use mathlib.Core.Option.{Option, some}
 use mathlib.Core.List.{[], _∷_}

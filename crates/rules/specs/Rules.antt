@@ -1,4 +1,5 @@
 -- Rules 1 to 8 as code names them, and what they ask.
+use mathlib.Core.Path.{_≡_}
 use mathlib.Core.Bool.{Bool, not, _&&_}
 use mathlib.Core.List.{List}
 use mathlib.Core.Option.{Option, none, some, Option·map, bind}
@@ -13,8 +14,9 @@ use Rattle.theory.specs.Formula.{Clause}
 use Rattle.theory.specs.Rules.{occurs, when, tie, becomesFalse, isNone, partner, rule1, rule2, rule3, rule4, rule5, rule6, rule7, rule8}
 use Rattle.clause.specs.declared.Test.{Test}
 use Rattle.clause.specs.declared.Test.the-variants.{Common, Opposed}
-use Rattle.clause.specs.Reading.{clauseAt}
-use Rattle.clause.specs.Finding.{passes}
+use Rattle.clause.specs.declared.Found.{Found}
+use Rattle.clause.specs.Reading.{clauseAt, CountsOf}
+use Rattle.clause.specs.Finding.{found, passes}
 use Rattle.rules.specs.declared.Fit.{Fit}
 use Rattle.rules.specs.declared.Fit.the-variants.{Nothing, Asks}
 use Rattle.rules.specs.declared.PairRule.{PairRule}
@@ -40,7 +42,11 @@ ruleAt t v Five = rule5
 ruleAt t v Six = rule6
 ruleAt t v (Pair p g) = pairRule p (clauseAt t v g)
 
--- rules 2 and 4, and the end of 5: where n are true, the first literal that passes becomes false
+-- of the clause that begins at an index
+abbrev pub asksAt : List ℤ → List ℕ → Rule → ℕ → Option Step
+asksAt t v rule i = ruleAt t v rule (clauseAt t v i)
+
+-- rules 2 and 4: where n are true, the first literal that passes becomes false
 abbrev pub falseWhere : ℕ → Test → Clause → Option Step
 falseWhere n test c = when (eqb (occurs TRUE c) n) (becomesFalse (find (passes test c) c))
 
@@ -55,3 +61,10 @@ paired test g h = find (pairs test g h) g
 abbrev pub pairStep : PairRule → Clause → Clause → Option Step
 pairStep Seven g h = becomesFalse (paired Common g h)
 pairStep Eight g h = bind (paired Opposed g h) (λ x. Option·map (tie x) (partner g h x))
+
+-- what is found, and asked, of g beside the clause that an array counts
+abbrev pub Paired : Test → List ℕ → Clause → Found → Type 0
+Paired test k g r = (h : Clause) → CountsOf k h → found r ≡ paired test g h
+
+abbrev pub PairStep : PairRule → List ℕ → Clause → Fit → Type 0
+PairStep rule k g r = (h : Clause) → CountsOf k h → fit r ≡ pairStep rule g h

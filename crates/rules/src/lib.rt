@@ -1,10 +1,10 @@
 // What the rules of document 01 ask: rules 1 to 6 of one clause as it stands, rules 7 and 8 of two.
 ghost use mathlib.Core.Path.{_≡_};
-ghost use Rattle.theory.specs.Formula.{Clause};
 ghost use Rattle.theory.specs.Rules.{tie, becomesFalse, rule1, rule3, rule5, rule6};
-ghost use Rattle.clause.specs.Reading.{Ready, clauseAt, CountsOf};
+ghost use Rattle.clause.specs.Reading.{Ready, clauseAt};
 ghost use Rattle.clause.specs.Finding.{found};
-ghost use Rattle.rules.specs.Rules.{fit, falseWhere, paired, pairStep, pairRule, ruleAt};
+ghost use Rattle.rules.specs.declared.Rule.the-variants.{Pair};
+ghost use Rattle.rules.specs.Rules.{fit, asksAt, falseWhere, Paired, PairStep};
 use clause::Found;
 use clause::Next;
 use clause::Test;
@@ -92,7 +92,7 @@ fn rule_3(table: &[i16], values: &[u16; Literal::VARIABLES], from: usize) -> Fit
     }
 }
 
-// Rules 2 and 4, and the end of 5: where so many are true, the first literal that passes becomes false.
+// Rules 2 and 4: where so many are true, the first literal that passes becomes false.
 fn false_where(
     table: &[i16],
     values: &[u16; Literal::VARIABLES],
@@ -115,12 +115,15 @@ fn rule_5(table: &[i16], values: &[u16; Literal::VARIABLES], from: usize) -> Fit
     requires { ⌜ Ready (now table) (now values) ⌝ }
     ensures { λ r. ⌜ fit r ≡ rule5 (clauseAt (now (table .entry)) (now (values .entry)) from) ⌝ }
 {
+    if clause::times_at(table, values, from, Literal::TRUE) != 0 {
+        return Fit::Nothing;
+    }
     let counts = clause::counts_at(table, values, from);
     let complementary = clause::first_that(table, values, from, &counts, Test::Opposed);
-    match complementary {
-        Found::Nothing => Fit::Nothing,
-        Found::At(x) => false_where(table, values, from, 0, Test::Apart(x)),
-    }
+    let Found::At(x) = complementary else {
+        return Fit::Nothing;
+    };
+    becomes_false(clause::first_that(table, values, from, &counts, Test::Apart(x)))
 }
 
 // 6. None true, two open entries of different placements and nothing else: tie the higher placement to the lower.
@@ -158,7 +161,7 @@ fn first_paired(
     test: Test,
 ) -> Found
     requires { ⌜ Ready (now table) (now values) ⌝ }
-    ensures { λ r. ⌜ ((c : Clause) → CountsOf (now (counts .entry)) c → found r ≡ paired test (clauseAt (now (table .entry)) (now (values .entry)) g) c) ⌝ }
+    ensures { λ r. ⌜ Paired test (now (counts .entry)) (clauseAt (now (table .entry)) (now (values .entry)) g) r ⌝ }
 {
     let mut i = g;
     loop {
@@ -186,7 +189,7 @@ fn pair_step(
     counts: &[u16; Literal::CODES],
 ) -> Fit
     requires { ⌜ Ready (now table) (now values) ⌝ }
-    ensures { λ r. ⌜ ((c : Clause) → CountsOf (now (counts .entry)) c → fit r ≡ pairStep rule (clauseAt (now (table .entry)) (now (values .entry)) g) c) ⌝ }
+    ensures { λ r. ⌜ PairStep rule (now (counts .entry)) (clauseAt (now (table .entry)) (now (values .entry)) g) r ⌝ }
 {
     match rule {
         PairRule::Seven => becomes_false(first_paired(table, values, g, counts, Test::Common)),
@@ -213,7 +216,7 @@ fn pair_rule(
     h: usize,
 ) -> Fit
     requires { ⌜ Ready (now table) (now values) ⌝ }
-    ensures { λ r. ⌜ fit r ≡ pairRule rule (clauseAt (now (table .entry)) (now (values .entry)) g) (clauseAt (now (table .entry)) (now (values .entry)) h) ⌝ }
+    ensures { λ r. ⌜ fit r ≡ asksAt (now (table .entry)) (now (values .entry)) (Pair rule g) h ⌝ }
 {
     let counts = clause::counts_at(table, values, h);
     let asked = pair_step(table, values, rule, g, &counts);
@@ -231,7 +234,7 @@ fn pair_rule(
 // What a rule asks of the clause at `from`.
 pub fn asks(table: &[i16], values: &[u16; Literal::VARIABLES], rule: Rule, from: usize) -> Fit
     requires { ⌜ Ready (now table) (now values) ⌝ }
-    ensures { λ r. ⌜ fit r ≡ ruleAt (now (table .entry)) (now (values .entry)) rule (clauseAt (now (table .entry)) (now (values .entry)) from) ⌝ }
+    ensures { λ r. ⌜ fit r ≡ asksAt (now (table .entry)) (now (values .entry)) rule from ⌝ }
 {
     match rule {
         Rule::One => rule_1(table, values, from),

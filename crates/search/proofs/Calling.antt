@@ -7,6 +7,7 @@ use borrow.Author.Tests.{lt-ltb, le-ltb}
 use lib.IntN.{ℤ, pos as posℤ}
 use lib.ListN.{length, drop, replicate, length-replicate}
 use lib.Seq.{drop-at, drop-append-le}
+use Rattle.general.specs.Lists.{drop-replicate}
 use Rattle.literal.specs.Literal.{entryOf}
 use Rattle.receipt.specs.declared.Checked.the-variants.{Refused}
 use Rattle.receipt.specs.declared.Fault.the-variants.{PlanShort, TrailShort}
@@ -28,7 +29,6 @@ use Rattle.clause.proofs.Accepted.{accepted-readable}
 use Rattle.search.specs.declared.Walk.{Walk}
 use Rattle.search.specs.Call.{called}
 use Rattle.search.specs.Walk.{Walkable, Walked, walked, planAfter, trailAfter, walkOf}
-use Rattle.search.proofs.Lists.{drop-replicate}
 
 -- lists that were cleared ------------------------------------------------------------------------------------------
 

@@ -1,4 +1,3 @@
-pub mod Lists
 pub mod Lowest
 pub mod Outcomes
 pub mod Sides

@@ -4,6 +4,8 @@ use mathlib.Core.Option.{some}
 use Prim.Native.Nat.{ℕ, suc, _+_, _≤_, _<_}
 use lib.IntN.{ℤ}
 use lib.ListN.{length, take, drop, set}
+use mir.Syntax.{w32}
+use mir.Val.{Fits}
 use Rattle.general.specs.Booleans.{bit}
 use Rattle.literal.specs.declared.Literal.{Literal}
 use Rattle.literal.specs.Literal.{var, entryOf, maxVariables}
@@ -11,7 +13,7 @@ use Rattle.receipt.specs.declared.Outcome.{Outcome}
 use Rattle.receipt.specs.declared.Outcome.the-variants.{LaidOut, NoLayout, Stopped}
 use Rattle.theory.specs.Formula.{Choice, clauses, Within}
 use Rattle.theory.specs.State.{opens, WellFormed}
-use Rattle.theory.specs.Tree.{Found, Run, visit, tree, Result}
+use Rattle.theory.specs.Tree.{Found, visit, tree, Result, limited}
 use Rattle.theory.specs.Search.{splitOn, decide, treeFrom}
 use Rattle.theory.specs.Calls.{over}
 use Rattle.state.specs.State.{stateOf}
@@ -27,13 +29,6 @@ pub record Walkable (t : List ℤ) (n : ℕ) (v : List ℕ) (d : ℕ) (plan : Li
   pub plan-room : n ≤ length plan
   pub trail-room : n ≤ length trail
   pub deep : d + opens (stateOf v) n ≤ n
-
--- the tree from a state, and from a split of it on p
-abbrev pub treeAt : ℕ → List ℤ → List ℕ → Run Choice
-treeAt n t v = treeFrom n (clauses t) (stateOf v)
-
-abbrev pub splitAt : ℕ → List ℤ → List ℕ → ℕ → Run Choice
-splitAt n t v p = visit (tree (decide n (clauses t)) (suc n)) 1 (splitOn n (stateOf v) (some p))
 
 pub record Walked : Type 0 where
   pub walk : Walk
@@ -55,9 +50,16 @@ trailAfter d (a ∷ l) t = take d t ++ (map entryOf (a .path) ++ drop (d + lengt
 abbrev pub walkOf : ℕ → ℕ → Result Choice → List ℕ → List ℤ → Walked
 walkOf n d r p t = walked (record { outcome = r .outcome; count = r .count }) (planAfter n (r .found) p) (trailAfter d (r .found) t)
 
+-- the walk from a state under an allowance, and from a split of it on p
+abbrev pub treeWalk : ℕ → List ℤ → List ℕ → ℕ → ℕ → List ℕ → List ℤ → Walked
+treeWalk n t v left d = walkOf n d (limited left (treeFrom n (clauses t) (stateOf v)))
+
+abbrev pub splitWalk : ℕ → List ℤ → List ℕ → ℕ → ℕ → ℕ → List ℕ → List ℤ → Walked
+splitWalk n t v p left d = walkOf n d (limited left (visit (tree (decide n (clauses t)) (suc n)) 1 (splitOn n (stateOf v) (some p))))
+
 -- one side as the split passes it on: the sum of the splits is a number, and the trail has room for the side
 pub record Passable (count splits : ℕ) (x : Literal) (d : ℕ) (t : List ℤ) : Type 0 where
-  pub sum : splits + count < 4294967296
+  pub sum : Fits w32 (splits + count)
   pub room : d < length t
   pub small : var x ≤ maxVariables
 

@@ -8,13 +8,12 @@ ghost use Rattle.general.specs.Booleans.{bit};
 ghost use Rattle.literal.specs.Literal.{var, maxVariables};
 ghost use Rattle.theory.specs.Formula.{clauses, holds};
 ghost use Rattle.theory.specs.State.{Open};
-ghost use Rattle.theory.specs.Tree.{limited};
 ghost use Rattle.theory.specs.Search.{onlyConstant, lowest, branchVariable, choiceOf};
 ghost use Rattle.theory.specs.Calls.{over, searchCall};
 ghost use Rattle.state.specs.State.{stateOf};
 ghost use Rattle.clause.specs.Reading.{Ready, clauseAt};
 ghost use Rattle.search.specs.Branch.{branchOf, lowerOf};
-ghost use Rattle.search.specs.Walk.{Walkable, treeAt, splitAt, walked, walkOf, Passable, counted, noted};
+ghost use Rattle.search.specs.Walk.{Walkable, walked, treeWalk, splitWalk, Passable, counted, noted};
 ghost use Rattle.search.specs.Call.{called};
 use clause::Next;
 use literal::Literal;
@@ -125,7 +124,7 @@ fn settle_and_decide(
     trail: &mut [i16],
 ) -> Walk
     requires { ⌜ Walkable (now table) n (state .values) depth (now plan) (now trail) ⌝ }
-    ensures { λ r. ⌜ walked r (now (plan .exit)) (now (trail .exit)) ≡ walkOf n depth (limited left (treeAt n (now (table .entry)) (state .values))) (now (plan .entry)) (now (trail .entry)) ⌝ }
+    ensures { λ r. ⌜ walked r (now (plan .exit)) (now (trail .exit)) ≡ treeWalk n (now (table .entry)) (state .values) left depth (now (plan .entry)) (now (trail .entry)) ⌝ }
 {
     let settled = propagate::propagate(table, n, state);
     if settled.dead {
@@ -159,7 +158,7 @@ fn split(
 ) -> Walk
     requires { ⌜ Walkable (now table) n (state .values) depth (now plan) (now trail) ⌝ }
     requires { ⌜ Open n (stateOf (state .values)) (p .0) ⌝ }
-    ensures { λ r. ⌜ walked r (now (plan .exit)) (now (trail .exit)) ≡ walkOf n depth (limited left (splitAt n (now (table .entry)) (state .values) (p .0))) (now (plan .entry)) (now (trail .entry)) ⌝ }
+    ensures { λ r. ⌜ walked r (now (plan .exit)) (now (trail .exit)) ≡ splitWalk n (now (table .entry)) (state .values) (p .0) left depth (now (plan .entry)) (now (trail .entry)) ⌝ }
 {
     if left == 0 {
         return Walk {

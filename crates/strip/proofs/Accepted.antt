@@ -15,11 +15,10 @@ use Rattle.receipt.specs.declared.Checked.the-variants.{Passed}
 use Rattle.receipt.specs.declared.Reading.the-variants.{Read}
 use Rattle.theory.specs.Formula.{Clause, Formula}
 use Rattle.theory.specs.Table.{closes, zeros, nonzeros, endsOpen, unknownFrom, check, Accepted}
-use Rattle.theory.specs.Strip.{readStrip}
+use Rattle.theory.specs.Strip.{nothingRead, readStrip}
 use Rattle.theory.specs.Encoding.{groups, tableOf, entries}
 use Rattle.theory.proofs.Tables.{InRange}
-use Rattle.strip.proofs.Sound.{Allows}
-use Rattle.strip.proofs.Ends.{Answered, answered}
+use Rattle.strip.proofs.Ends.{Ended, answered}
 
 entry-size : (l : Literal) → natAbs (entryOf l) ≡ var l
 entry-size (Pos p) = refl
@@ -76,7 +75,7 @@ module _ (n : ℕ) where
 -- every operation accepts the table that was read
 pub read-accepted : (s : List ℕ) (room n u : ℕ) → readStrip s room .reading ≡ Read n u → Accepted n (readStrip s room .table)
 read-accepted s room n u e =
-    let a : Answered s room (Read n u) (readStrip s room .table) = rw e at (answered s room) in
+    let a : Ended s room 0 nothingRead [] (Read n u) (readStrip s room .table) = rw e at (answered s room) in
     let l = a .3 in
     let b = l .allows in
     rw (l .table) (formula-accepted n (groups (l .items)) (b .variables) (omega (arith, b .clauses)) (omega (arith, b .literals)) (b .known))

@@ -1,12 +1,10 @@
 -- A strip of the grammar, within the limits and with room for its table, is read as that table.
 use mathlib.Core.Path.{_≡_, refl, ap, sym, subst, _∙_}
-use mathlib.Core.Bool.{false, _||_}
 use mathlib.Core.List.{List, [], _∷_, _++_, append-assoc, append-nil, List·Memᴰ·head, List·Memᴰ·tail, List·Memᴰ·cases-cons}
 use mathlib.Core.Logic.{⊎-elim}
 use Prim.Native.Nat.{ℕ, zero, suc, _+_, _<_, _≤_}
 use native.Mathlib.Omega.{arith}
 use borrow.Author.Tests.{lt-ltb, le-ltb, ne-eqb}
-use lib.Dec.{eqb, ltb}
 use lib.IntN.{ℤ}
 use lib.ListN.{length, drop, length-append, length-drop}
 use Rattle.literal.specs.declared.Literal.{Literal}
@@ -27,7 +25,7 @@ use Rattle.theory.specs.Strip.{turnOf, operandBytes, operandAt, commandAt, prog
 use Rattle.theory.specs.Encoding.{Item, chapter, group, commandBytes, entryBytes, itemBytes, groups, tableOf, entries, Bytes}
 use Rattle.theory.proofs.Tables.{InRange}
 use Rattle.reader.proofs.Commands.{bytes-long, bytes-rest, bytes-command, word-at}
-use Rattle.strip.proofs.Sound.{pending, with, Allows, Left}
+use Rattle.strip.proofs.Sound.{with, Allows, Left}
 
 rest-range : (n : ℕ) (l : Literal) (c : Clause) (f : Formula) → InRange n ((l ∷ c) ∷ f) → InRange n (c ∷ f)
 rest-range n l c f h d k md mk = ⊎-elim

@@ -11,12 +11,11 @@ use Rattle.general.specs.Booleans.{true-not-false}
 use Rattle.receipt.specs.declared.Refusal.{Refusal}
 use Rattle.receipt.specs.declared.Reading.{Reading}
 use Rattle.receipt.specs.declared.Reading.the-variants.{Read, Refused}
-use Rattle.theory.specs.declared.Turn.the-variants.{Start}
-use Rattle.theory.specs.Strip.{progress, Decoding, maxStrip, readStrip}
+use Rattle.theory.specs.Strip.{nothingRead, Decoding, maxStrip, readStrip}
 use Rattle.theory.specs.Encoding.{Item, groups, tableOf, StripWithin, Bytes}
 use Rattle.theory.specs.Calls.{over, ReadCall, readCall}
 use Rattle.strip.specs.Decoding.{called}
-use Rattle.strip.proofs.Ends.{Answered, answered}
+use Rattle.strip.proofs.Ends.{Ended, answered}
 use Rattle.strip.proofs.Encoded.{left-reads}
 
 -- a strip within the limits, and the table it stands for
@@ -24,7 +23,7 @@ pub within-reads : (s : List ℕ) → Bytes s → (room n : ℕ) (l : List Item)
     readStrip s room ≡ record { reading = Read n (length (tableOf (groups l))); table = tableOf (groups l) }
 unfolding readStrip
 within-reads s b room n l w fits = rw (le-ltb maxStrip (length s) (w .short))
-    (left-reads s room b n (tableOf (groups l)) fits (suc (length s)) 0 (progress Start 0 0 0) [] (omega arith) (omega arith) (record {
+    (left-reads s room b n (tableOf (groups l)) fits (suc (length s)) 0 nothingRead [] (omega arith) (omega arith) (record {
       clause = [];
       items = l;
       strip = λ y. w .is;
@@ -50,14 +49,14 @@ module _ (s : List ℕ) (t : List ℤ) (r : Reading) (t′ : List ℤ) (is : cal
   -- "a refused call changes no lent element"
   pub read-refused-unchanged : (f : Refusal) → r ≡ Refused f → t′ ≡ t
   read-refused-unchanged f e =
-      let a : Answered s (length t) (Refused f) (readStrip s (length t) .table) = rw (sym reading-is ∙ e) at (answered s (length t)) in
+      let a : Ended s (length t) 0 nothingRead [] (Refused f) (readStrip s (length t) .table) = rw (sym reading-is ∙ e) at (answered s (length t)) in
       table-is ∙ rw (a .0)
 
   -- "Every .. strip within the limits of document 01, with room lent for the results, is accepted", "Every other input is refused"
   pub accepted-exactly : Bytes s → (n u : ℕ) → (r ≡ Read n u) ↔ ((l : List Item) × StripWithin s n l × (u ≡ length (tableOf (groups l))) × (u ≤ length t))
   accepted-exactly b n u = (
     λ e.
-        let a : Answered s (length t) (Read n u) (readStrip s (length t) .table) = rw (sym reading-is ∙ e) at (answered s (length t)) in
+        let a : Ended s (length t) 0 nothingRead [] (Read n u) (readStrip s (length t) .table) = rw (sym reading-is ∙ e) at (answered s (length t)) in
         let l = a .3 in
         let k = l .allows in (
           l .items,

@@ -1,8 +1,7 @@
 -- The reading loop: reading on from where it stands, with the numbers that it keeps and the table in the first cells, reads the whole strip.
-use mathlib.Core.Path.{_≡_, refl, ap, sym, _∙_}
-use mathlib.Core.Logic.{_≢_}
-use mathlib.Core.Bool.{true, false}
-use mathlib.Core.List.{List, [], _∷_}
+use mathlib.Core.Path.{_≡_, refl, _∙_}
+use mathlib.Core.Bool.{Bool, true, false, cond}
+use mathlib.Core.List.{List, []}
 use Prim.Native.Nat.{ℕ, zero, suc, _+_, _<_, _≤_}
 use native.Mathlib.Nat.{add-zero}
 use native.Mathlib.Numerals.{add-one}
@@ -15,18 +14,20 @@ use Rattle.literal.specs.Literal.{maxTable}
 use Rattle.receipt.specs.declared.Fault.{Fault}
 use Rattle.receipt.specs.declared.Fault.the-variants.{CutStrip, TableShort}
 use Rattle.receipt.specs.declared.Refusal.{Refusal}
-use Rattle.receipt.specs.declared.Reading.the-variants.{Read}
+use Rattle.receipt.specs.declared.Reading.{Reading}
+use Rattle.receipt.specs.declared.Reading.the-variants.{Read, Refused}
 use Rattle.receipt.specs.Receipt.{refusal}
+use Rattle.receipt.specs.Answers.{readLength}
 use Rattle.theory.specs.declared.Mark.{Mark}
-use Rattle.theory.specs.declared.Turn.the-variants.{Start, After}
+use Rattle.theory.specs.declared.Turn.the-variants.{After}
 use Rattle.theory.specs.declared.Command.the-variants as command
 use Rattle.theory.specs.declared.Progress.{Progress}
 use Rattle.theory.specs.declared.Stored.{Stored}
 use Rattle.theory.specs.declared.Stored.the-variants.{Nothing, Element}
 use Rattle.theory.specs.declared.Obeyed.the-variants as obeyed
-use Rattle.theory.specs.Strip.{same, progress, commandAt, obey, Decoding, notRead, storing, onward, follow, readFrom, maxStrip, readStrip}
-use Rattle.reader.proofs.Commands.{Stands, Says, command-says, command-bytes}
-use Rattle.strip.proofs.Sound.{pending, Sound, begun-sound, elements, obey-keeps}
+use Rattle.theory.specs.Strip.{same, nothingRead, commandAt, obey, Decoding, notRead, ending, storing, onward, follow, readFrom, maxStrip, readStrip}
+use Rattle.reader.proofs.Commands.{Stands, command-stands, command-bytes}
+use Rattle.strip.proofs.Sound.{Sound, begun-sound, elements, obey-keeps}
 
 module _ (s : List ℕ) (room : ℕ) where
   -- the loop's invariant
@@ -38,7 +39,7 @@ module _ (s : List ℕ) (room : ℕ) where
     pub enough : length s ≤ at + fuel
     pub rest : readFrom s room (suc fuel) at p (take used cells) ≡ readStrip s room
 
-  pub begun : length s ≤ maxStrip → (cells : List ℤ) → length cells ≡ maxTable → Reached 0 0 (progress Start 0 0 0) cells
+  pub begun : length s ≤ maxStrip → (cells : List ℤ) → length cells ≡ maxTable → Reached 0 0 nothingRead cells
   unfolding readStrip
   begun h cells l = record { short = h; sound = begun-sound; long = l; fuel = length s; enough = omega arith; rest = rw (le-ltb maxStrip (length s) h) }
 
@@ -51,14 +52,14 @@ module _ {s : List ℕ} {room at used : ℕ} {p : Progress} {cells : List ℤ} (
   used-length = length-take-le used cells in-cells
 
   -- the end of the strip
-  pub cut : length s ≤ at → same (p .turn) After ≡ false → notRead (refusal CutStrip (length s)) ≡ readStrip s room
+  pub ended : length s ≤ at → (r : Reading) → r ≡ ending (length s) p used →
+      _≡_ {A = Decoding} (record { reading = r; table = take (readLength r) cells }) (readStrip s room)
   unfolding readFrom
-  cut l e = rw (le-ltb at (length s) l, e) at (a .rest)
-
-  pub whole : length s ≤ at → same (p .turn) After ≡ true →
-      _≡_ {A = Decoding} (record { reading = Read (p .variables) used; table = take used cells }) (readStrip s room)
-  unfolding readFrom
-  whole l e = rw (le-ltb at (length s) l, e, used-length) at (a .rest)
+  ended l r e = rw (e, in-use (same (p .turn) After)) (rw (le-ltb at (length s) l, used-length) at (a .rest))
+    where
+      in-use : (b : Bool) → take (readLength (cond b (Read (p .variables) used) (Refused (refusal CutStrip (length s))))) cells ≡ cond b (take used cells) []
+      in-use true = refl
+      in-use false = refl
 
   followed : at < length s → follow s room (readFrom s room (a .fuel)) at p (take used cells) (commandAt s at (p .turn)) ≡ readStrip s room
   unfolding readFrom
@@ -78,7 +79,7 @@ module _ {s : List ℕ} {room at used : ℕ} {p : Progress} {cells : List ℤ} {
   a = c .reached
 
   stands : Stands s at (p .turn) m v next
-  stands = rw (← c .command) at (command-says s at (p .turn))
+  stands = command-stands s at (c .command)
 
   pub further : at < next
   further = omega (arith, stands .further)
@@ -93,8 +94,8 @@ module _ {s : List ℕ} {room at used : ℕ} {p : Progress} {cells : List ℤ} {
     sound : Sound q (used + elements e)
     sound =
         let d : Sound p (length (take used cells)) = rw (used-length a) (a .sound) in
-        let k : Sound q (length (take used cells) + elements e) = (rw (← g) at (obey-keeps s at next p (take used cells) d m v (stands .turn) (command-bytes s at stands))) .0 in
-        rw (used-length a) at k
+        let k = rw (← g) at (obey-keeps s at next p (take used cells) d m v (stands .turn) (command-bytes s at stands)) in
+        rw (used-length a) at (k .0)
 
     storing-rest : storing s room (readFrom s room (a .fuel) next q) at (take used cells) e ≡ readStrip s room
     storing-rest = rw (← g) at obeying

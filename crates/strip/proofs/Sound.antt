@@ -13,7 +13,8 @@ use lib.ListN.{length, drop}
 use Rattle.general.specs.Booleans.{true-not-false, cond-ind}
 use Rattle.literal.specs.declared.Literal.{Literal}
 use Rattle.literal.specs.declared.Literal.the-variants.{Pos, Neg}
-use Rattle.literal.specs.Literal.{var, entryOf, maxVariables, maxClauses, maxLiterals, maxTable}
+use Rattle.literal.specs.Literal.{var, entryOf, maxVariables, maxClauses, maxLiterals}
+use Rattle.receipt.specs.declared.Fault.the-variants.{TableShort}
 use Rattle.receipt.specs.Receipt.{numberOf}
 use Rattle.theory.specs.declared.Mark.{Mark}
 use Rattle.theory.specs.declared.Mark.the-variants.{Placements, Chapter, Opens, Taken, LeftOut, Closes, Ends}
@@ -25,9 +26,9 @@ use Rattle.theory.specs.declared.Stored.the-variants.{Nothing, Element}
 use Rattle.theory.specs.declared.Obeyed.{Obeyed}
 use Rattle.theory.specs.declared.Obeyed.the-variants.{Goes, Refused}
 use Rattle.theory.specs.Formula.{Clause, Formula}
-use Rattle.theory.specs.Strip.{turnOf, same, progress, entered, obey}
+use Rattle.theory.specs.Strip.{turnOf, same, nothingRead, entered, obey}
 use Rattle.theory.specs.Encoding.{Item, chapter, group, commandBytes, entryBytes, itemBytes, encode, groups, tableOf, entries, Bytes}
-use Rattle.theory.proofs.Tables.{InRange, push-range}
+use Rattle.theory.proofs.Tables.{known-variable, InRange, push-range}
 
 -- inside a group its closing 0 is still to come
 abbrev pub pending : Turn → ℕ
@@ -42,7 +43,7 @@ pub record Sound (p : Progress) (used : ℕ) : Type 0 where
   pub literals : p .literals ≤ maxLiterals
   pub elements : used + pending (p .turn) ≡ p .clauses + p .literals
 
-pub begun-sound : Sound (progress Start 0 0 0) 0
+pub begun-sound : Sound nothingRead 0
 begun-sound = record { variables = omega arith; clauses = omega arith; literals = omega arith; elements = refl }
 
 -- how many elements are stored, and the table with them
@@ -87,16 +88,7 @@ module _ (s : List ℕ) where
   -- what obeying a mark at index i says of the strip from next on
   abbrev pub Keeps : ℕ → ℕ → Progress → List ℤ → Turn → Obeyed → Type 0
   Keeps i next p t u (Goes q e) = Sound q (length t + elements e) × ((n : ℕ) (T : List ℤ) → Left next (q .turn) q (with t e) n T → Left i u p t n T)
-  Keeps i next p t u (Refused why) = numberOf why ≢ 23
-
--- an operand that is a variable from 1 to n
-pub known-variable : (n v : ℕ) → (eqb v 0 || ltb n v) ≡ false → (0 < v) × (v ≤ n)
-known-variable n v = go (eqb v 0) refl (ltb n v) refl
-  where
-    go : (a : Bool) → eqb v 0 ≡ a → (b : Bool) → ltb n v ≡ b → (a || b) ≡ false → (0 < v) × (v ≤ n)
-    go true ea b eb e = absurd (true-not-false refl e)
-    go false ea true eb e = absurd (true-not-false refl e)
-    go false ea false eb e = let h : v ≢ 0 = eqb-false v 0 ea in (omega arith, ltb-false n v eb)
+  Keeps i next p t u (Refused why) = numberOf why ≢ numberOf TableShort
 
 closed-range : (n : ℕ) (f : Formula) → InRange n f → InRange n ([] ∷ f)
 closed-range n f h c l mc ml = ⊎-elim (λ (q : c ≡ []). absurd (List·Memᴰ·not-nil (rw q at ml))) (λ m. h c l m ml) (List·Memᴰ·cases-cons mc)

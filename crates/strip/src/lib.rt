@@ -6,7 +6,7 @@ ghost use Rattle.literal.specs.Literal.{maxVariables};
 ghost use Rattle.receipt.specs.Receipt.{refusal};
 ghost use Rattle.theory.specs.declared.Command.the-variants as command;
 ghost use Rattle.theory.specs.declared.Obeyed.the-variants.{Goes};
-ghost use Rattle.theory.specs.Strip.{progress, entered, obey, notRead, readStrip};
+ghost use Rattle.theory.specs.Strip.{progress, entered, obey, notRead, ending, readStrip};
 ghost use Rattle.theory.specs.Calls.{over, readCall};
 ghost use Rattle.strip.specs.Decoding.{decodingOf, called};
 use literal::Literal;
@@ -21,6 +21,13 @@ use theory::Stored;
 use theory::Turn;
 
 const MAX_STRIP: usize = 16384;
+
+const NOTHING_READ: Progress = Progress {
+    turn: Turn::Start,
+    variables: 0,
+    clauses: 0,
+    literals: 0,
+};
 
 // What a command does -------------------------------------------------------------------------------------------------
 
@@ -117,11 +124,22 @@ fn passed_on(found: Command) -> Decoded
             let fault = why.fault;
             refused(fault, why.place)
         }
-        Command::Command {
-            mark: _,
-            operand: _,
-            next,
-        } => refused(Fault::CutStrip, next),
+        Command::Command(_, _, next) => refused(Fault::CutStrip, next),
+    }
+}
+
+// The end of a strip of so many bytes: without 5A it is cut.
+fn ending(length: usize, progress: Progress, used: usize) -> Reading
+    ensures { λ r. ⌜ r ≡ ending length progress used ⌝ }
+{
+    let turn = progress.turn;
+    if reader::same(turn, Turn::After) {
+        Reading::Read {
+            variables: progress.variables as usize,
+            used,
+        }
+    } else {
+        Reading::Refused(Refusal::new(Fault::CutStrip, length))
     }
 }
 
@@ -134,22 +152,12 @@ pub fn decode(strip: &[u8], room: usize) -> Decoded
     }
     let mut cells = [0i16; Literal::MAX_TABLE];
     let mut used: usize = 0;
-    let mut progress = Progress {
-        turn: Turn::Start,
-        variables: 0,
-        clauses: 0,
-        literals: 0,
-    };
+    let mut progress = NOTHING_READ;
     let mut at: usize = 0;
     while at < strip.len() {
         let turn = progress.turn;
         let found = reader::command_from(strip, at, turn);
-        let Command::Command {
-            mark,
-            operand,
-            next,
-        } = found
-        else {
+        let Command::Command(mark, operand, next) = found else {
             return passed_on(found);
         };
         match obey(progress, operand, mark) {
@@ -167,15 +175,8 @@ pub fn decode(strip: &[u8], room: usize) -> Decoded
             }
         }
     }
-    let turn = progress.turn;
-    if !reader::same(turn, Turn::After) {
-        return refused(Fault::CutStrip, strip.len());
-    }
     Decoded {
-        reading: Reading::Read {
-            variables: progress.variables as usize,
-            used,
-        },
+        reading: ending(strip.len(), progress, used),
         cells,
     }
 }

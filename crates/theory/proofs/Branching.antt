@@ -10,7 +10,6 @@ use native.Mathlib.Decide.{decLt}
 use lib.Dec.{eqb, ltb}
 use borrow.Author.Tests.{eqb-true, lt-ltb, le-ltb}
 use Rattle.general.specs.Booleans.{bool-cases, true-not-false}
-use Rattle.literal.specs.declared.Literal.{Literal}
 use Rattle.literal.specs.declared.Literal.the-variants.{Pos}
 use Rattle.literal.specs.Literal.{TRUE, FALSE, var}
 use Rattle.theory.specs.Formula.{Clause, Formula, Assignment, Choice, assignment, Within}

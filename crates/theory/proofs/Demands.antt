@@ -1,15 +1,14 @@
 -- Demands 2 and 3 of the user, as theorems about the search of an accepted table.
 use mathlib.Core.Path.{_≡_, refl, ap, sym, _∙_}
-use mathlib.Core.Bool.{true}
-use mathlib.Core.Logic.{_⊎_, ⊎-elim, _↔_}
+use mathlib.Core.Logic.{_↔_}
 use mathlib.Core.Option.{Option, none, some}
 use mathlib.Core.List.{List, [], _∷_}
-use Prim.Native.Nat.{ℕ, zero, suc, _<_, _≤_, min}
+use Prim.Native.Nat.{ℕ, suc, _<_, _≤_, min}
 use native.Mathlib.Omega.{arith}
 use lib.IntN.{ℤ}
 use Rattle.theory.specs.Bound.{N}
 use Rattle.theory.specs.Formula.{Formula, Choice, assignment, clauses, Solution, Within}
-use Rattle.theory.specs.Order.{_≼_, Least, IsLeast, IsFirst}
+use Rattle.theory.specs.Order.{_≼_, Least, IsFirst}
 use Rattle.theory.specs.Propagation.{Settled, dead, rest, settle}
 use Rattle.receipt.specs.declared.Outcome.the-variants.{LaidOut, NoLayout, Stopped}
 use Rattle.theory.specs.Search.{decided, decide, treeFrom, treeOf, needs, search}
@@ -19,7 +18,7 @@ use Rattle.theory.specs.Tree.{Found, visit, tree, finished, finish}
 use Rattle.theory.proofs.Agreement.{Extends}
 use Rattle.theory.proofs.Branching.{splitOn-means}
 use Rattle.theory.proofs.Budget.{stopped-iff, count-min, larger-budget, limited-finished}
-use Rattle.theory.proofs.Propagation.{initial-well, Ended, Ends}
+use Rattle.theory.proofs.Propagation.{initial-well, Ends}
 use Rattle.theory.proofs.Solutions.{Sol, Keeps, settling-keeps-solutions}
 use Rattle.theory.proofs.Splits.{rests-closed, settle-ends, tree-bound}
 use Rattle.theory.proofs.States.{opens-bound}

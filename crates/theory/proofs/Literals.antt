@@ -1,12 +1,11 @@
 -- Laws of literals: equality, opposites and variables.
-use mathlib.Core.Path.{_≡_, refl, ap, sym, _∙_}
-use mathlib.Core.Bool.{Bool, true, false}
+use mathlib.Core.Path.{_≡_, refl, ap}
+use mathlib.Core.Bool.{true, false}
 use mathlib.Core.Logic.{_⊎_, inl, inr, _≢_, ⊎-elim}
-use Prim.Native.Nat.{ℕ, zero, suc, _<_, _≤_}
+use Prim.Native.Nat.{ℕ}
 use native.Mathlib.Omega.{arith}
 use native.Mathlib.Decide.{ℕ-discrete}
-use lib.Dec.{eqb}
-use borrow.Author.Tests.{eqb-true, eqb-false, eq-eqb, ne-eqb}
+use borrow.Author.Tests.{eqb-true, eq-eqb}
 use Rattle.general.specs.Booleans.{true-not-false, bool-cases}
 use Rattle.literal.specs.declared.Literal.{Literal}
 use Rattle.literal.specs.declared.Literal.the-variants.{Pos, Neg}
@@ -23,9 +22,6 @@ var-opposite (Neg p) = refl
 pub opposite-ne : (l : Literal) → opposite l ≢ l
 opposite-ne (Pos p) e = let z : _≡_ {A = ℕ} 0 1 = cc in omega arith
 opposite-ne (Neg p) e = let z : _≡_ {A = ℕ} 0 1 = cc in omega arith
-
-pub opposite-injective : (x y : Literal) → opposite x ≡ opposite y → x ≡ y
-opposite-injective x y e = sym (opposite-opposite x) ∙ ap opposite e ∙ opposite-opposite y
 
 pub same-true : (x y : Literal) → same x y ≡ true → x ≡ y
 same-true (Pos p) (Pos q) e = ap Pos (eqb-true p q e)

@@ -4,7 +4,7 @@ use mathlib.Core.Bool.{Bool, true, false, not, _&&_, cond}
 use mathlib.Core.Logic.{_⊎_, inl, inr, ⊎-elim}
 use mathlib.Core.Option.{Option, none, some}
 use mathlib.Core.List.{List, [], _∷_, map, List·Memᴰ, List·Memᴰ·head, List·Memᴰ·tail, List·Memᴰ·not-nil, List·Memᴰ·cases-cons, List·Memᴰ·append-cases, List·Memᴰ·eq-of-singleton, Memᴰ·append-left, Memᴰ·append-right, Memᴰ·cast}
-use Prim.Native.Nat.{ℕ, _<_, _≤_, min}
+use Prim.Native.Nat.{ℕ, _≤_, min}
 use native.Mathlib.Omega.{arith}
 use native.Mathlib.Decide.{decLe}
 use lib.Dec.{eqb}
@@ -14,7 +14,6 @@ use Rattle.general.specs.Booleans.{true-not-false}
 use Rattle.general.specs.Lists.{mem-map, map-mem}
 use Rattle.general.specs.Search.{Finds, find-finds}
 use Rattle.literal.specs.declared.Literal.{Literal}
-use Rattle.literal.specs.declared.Literal.the-variants.{Pos}
 use Rattle.literal.specs.Literal.{var, opposite}
 use Rattle.theory.specs.Formula.{Clause, Formula, Within}
 use Rattle.theory.specs.Order.{IsLeast}

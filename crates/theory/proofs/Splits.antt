@@ -2,27 +2,27 @@
 use mathlib.Core.Path.{_≡_, refl, ap, sym, _∙_}
 use mathlib.Core.Logic.{_≢_, ⊎-elim}
 use mathlib.Core.Option.{Option, none, some}
-use mathlib.Core.List.{List, [], _∷_, List·Memᴰ, List·Memᴰ·head, List·Memᴰ·tail}
-use Prim.Native.Nat.{ℕ, zero, suc, _+_, _-_, _<_, _≤_}
+use mathlib.Core.List.{[], _∷_, List·Memᴰ, List·Memᴰ·head, List·Memᴰ·tail}
+use Prim.Native.Nat.{ℕ, suc, _+_, _-_, _<_, _≤_}
 use native.Mathlib.Omega.{arith}
 use lib.ListN.{length}
 use Rattle.literal.specs.declared.Literal.{Literal}
 use Rattle.literal.specs.declared.Literal.the-variants.{Pos, Neg}
 use Rattle.literal.specs.Literal.{TRUE, FALSE, var, opposite}
-use Rattle.theory.specs.Formula.{Clause, Formula, Choice, Within}
-use Rattle.theory.specs.Order.{Least, IsLeast}
+use Rattle.theory.specs.Formula.{Clause, Formula, Within}
+use Rattle.theory.specs.Order.{IsLeast}
 use Rattle.theory.specs.State.{State, initial, value, replace, assign, standing, opens, WellFormed}
 use Rattle.theory.specs.Rules.{occurs}
 use Rattle.theory.specs.Propagation.{step, Settled, dead, rest, settle}
 use Rattle.theory.specs.Bound.{N}
 use Rattle.theory.specs.Search.{branchVariable, splitOn, decided, decide, treeOf}
-use Rattle.theory.proofs.Literals.{literal-cases, relation, of-variable}
-use Rattle.theory.proofs.States.{Based, well-based, base-true, base-false, Side, side, Valid, assign-well, value-assign, value-opposite, replace-same, replace-opposite-same, replace-other, Refines, refines-value, refines-trans, refines-assign, refines-root, opens-le, opens-bound, opens-assign}
+use Rattle.theory.proofs.Literals.{literal-cases, of-variable}
+use Rattle.theory.proofs.States.{Based, well-based, base-true, base-false, Side, side, Valid, assign-well, value-assign, replace-same, replace-other, Refines, refines-value, refines-trans, refines-assign, refines-root, opens-le, opens-bound, opens-assign}
 use Rattle.theory.proofs.Clauses.{occurs-here, occurs-tail, mem-occurs, standing-refines}
 use Rattle.theory.proofs.Closed.{Alive, Closed, quiet-closed}
 use Rattle.theory.proofs.Asks.{standing-no-false, standing-fixed, standing-inside, step-rests}
 use Rattle.theory.proofs.Forced.{beside-true}
-use Rattle.theory.proofs.Propagation.{initial-well, Ended, Ends, propagate-ends}
+use Rattle.theory.proofs.Propagation.{initial-well, Ends, propagate-ends}
 use Rattle.theory.proofs.Live.{InLive, live-open, branch-least}
 use Rattle.theory.proofs.Bound.{N-branch}
 use Rattle.theory.proofs.Tree.{Narrower, Narrow, splits-le}

@@ -1,15 +1,14 @@
 -- The search of document 01: what is decided after settling, and the tree from the initial state.
-use mathlib.Core.Bool.{Bool, true, false, cond}
+use mathlib.Core.Bool.{cond}
 use mathlib.Core.List.{List, [], _∷_, _++_, map}
 use mathlib.Core.Option.{Option, none, some}
-use Prim.Native.Nat.{ℕ, zero, suc, _+_, _-_, min}
+use Prim.Native.Nat.{ℕ, suc, _+_, _-_, min}
 use lib.Dec.{eqb}
 use lib.IntN.{ℤ, pos as posℤ}
 use lib.ListN.{length, replicate}
 use Rattle.general.specs.Booleans.{bit}
 use Rattle.general.specs.Lists.{upTo}
-use Rattle.literal.specs.declared.Literal.{Literal}
-use Rattle.literal.specs.declared.Literal.the-variants.{Pos, Neg}
+use Rattle.literal.specs.declared.Literal.the-variants.{Pos}
 use Rattle.literal.specs.Literal.{TRUE, FALSE, var, entryOf}
 use Rattle.theory.specs.Formula.{Clause, Formula, Assignment, holds, Choice, clauses}
 use Rattle.theory.specs.State.{State, initial, assign, standing}

@@ -1,13 +1,12 @@
 -- States of propagation (settling) as substitutions, and a clause as it stands in a state.
 use mathlib.Core.Path.{_≡_}
-use mathlib.Core.Bool.{Bool, true, false, cond}
-use mathlib.Core.List.{List, [], _∷_}
+use mathlib.Core.Bool.{cond}
+use mathlib.Core.List.{[], _∷_}
 use Prim.Native.Nat.{ℕ, zero, suc, _+_, _≤_, _<_}
-use lib.Dec.{eqb, ltb}
 use Rattle.general.specs.Booleans.{bit}
 use Rattle.literal.specs.declared.Literal.{Literal}
 use Rattle.literal.specs.declared.Literal.the-variants.{Pos, Neg}
-use Rattle.literal.specs.Literal.{TRUE, FALSE, var, opposite, same, isOpen}
+use Rattle.literal.specs.Literal.{FALSE, var, opposite, same}
 use Rattle.theory.specs.Formula.{Clause, Assignment, holds}
 
 -- "A state says of each placement: taken, left out, open, or tied to a lower open placement as equal or opposite":

@@ -106,6 +106,9 @@ commandAt s i t = commandOf s i t (markOf (getD s i 0))
 abbrev pub progress : Turn → ℕ → ℕ → ℕ → Progress
 progress t n c l = record { turn = t; variables = n; clauses = c; literals = l }
 
+abbrev pub nothingRead : Progress
+nothingRead = progress Start 0 0 0
+
 -- an entry: "value (1 or 5), limit (.., 3 at the 2,049th entry)"
 abbrev pub entered : Progress → Literal → Obeyed
 entered p l =
@@ -114,7 +117,8 @@ entered p l =
     (Goes (progress Inside (p .variables) (p .clauses) (p .literals + 1)) (Element (entryOf l)))
     (Refused TooManyLiterals))
 
--- what a command with operand v does: limits are counted over the whole filing, "Chapters don't change the table", "entries and closings each need an element"
+-- what a command with operand v does: limits are counted over the whole filing, "2 at the 513th opening", "Chapters don't change the table",
+-- "entries and closings each need an element"
 unfoldable pub obey : Progress → ℕ → Mark → Obeyed
 obey p v Placements = cond (ltb maxVariables v) (Refused TooManyVariables) (Goes (progress Outside v (p .clauses) (p .literals)) Nothing)
 obey p v Chapter = Goes p Nothing
@@ -135,8 +139,12 @@ pub record Decoding : Type 0 where
 abbrev pub notRead : Refusal → Decoding
 notRead f = record { reading = reading.Refused f; table = [] }
 
+-- at the end of a strip of n bytes, with u elements read: "Missing 5A: place is the strip's length"
+abbrev pub ending : ℕ → Progress → ℕ → Reading
+ending n p u = cond (same (p .turn) After) (reading.Read (p .variables) u) (reading.Refused (refusal CutStrip n))
+
 module _ (s : List ℕ) (room : ℕ) where
-  -- 23: "no room for the next element"; i is the command's place
+  -- last of all 23, "no room for the next element"; i is the command's place
   abbrev pub storing : (List ℤ → Decoding) → ℕ → List ℤ → Stored → Decoding
   storing go i t Nothing = go t
   storing go i t (Element e) = cond (ltb (length t) room) (go (t ++ (e ∷ []))) (notRead (refusal TableShort i))
@@ -149,9 +157,8 @@ module _ (s : List ℕ) (room : ℕ) where
   follow go i p t (command.Command m v next) = onward (go next) i t (obey p v m)
   follow go i p t (command.Refused f) = notRead f
 
-  -- at the end of the strip: "Missing 5A: place is the strip's length"
   abbrev pub finish : Progress → List ℤ → Decoding
-  finish p t = cond (same (p .turn) After) (record { reading = reading.Read (p .variables) (length t); table = t }) (notRead (refusal CutStrip (length s)))
+  finish p t = record { reading = ending (length s) p (length t); table = cond (same (p .turn) After) t [] }
 
   -- command by command, with fuel for k - 1 commands
   unfoldable pub readFrom : ℕ → ℕ → Progress → List ℤ → Decoding
@@ -164,4 +171,4 @@ maxStrip = 16384
 
 -- the reading of a strip with room for so many elements: each command takes a byte, so fuel of one more than the length is enough
 unfoldable pub readStrip : List ℕ → ℕ → Decoding
-readStrip s room = cond (ltb maxStrip (length s)) (notRead (refusal StripTooLong 0)) (readFrom s room (suc (length s)) 0 (progress Start 0 0 0) [])
+readStrip s room = cond (ltb maxStrip (length s)) (notRead (refusal StripTooLong 0)) (readFrom s room (suc (length s)) 0 nothingRead [])

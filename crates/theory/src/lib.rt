@@ -35,13 +35,9 @@ pub enum Turn {
     After,
 }
 
-// "a command gives its mark and operand, or a refusal with its place", and the index of the next command.
+// "a command gives its mark and operand", and the index of the next one, "or a refusal with its place".
 pub enum Command {
-    Command {
-        mark: Mark,
-        operand: u16,
-        next: usize,
-    },
+    Command(Mark, u16, usize),
     Refused(Refusal),
 }
 

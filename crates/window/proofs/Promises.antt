@@ -1,89 +1,306 @@
--- The window's call is a call of Search on the table that was read, with a trail of its own: so every promise of Search (crate search, Promises) is the window's too.
+-- The user's demands, said of a call of the window by the number that it returns, and of the plan and the receipt after it.
+-- A call of an acceptable strip is a call of Search on the table of its groups, with a trail of the window's own: so what Search promises holds here too.
+-- All of it follows from the equation that `window` ensures.
 use mathlib.Core.Path.{_≡_, refl, ap, sym, _∙_}
-use mathlib.Core.List.{List}
-use Prim.Native.Nat.{ℕ, _≤_}
-use lib.IntN.{ℤ, pos as posℤ}
-use lib.ListN.{length, take, replicate, length-replicate}
+use mathlib.Core.Bool.{true}
+use mathlib.Core.Logic.{_⊎_, inl, inr, ⊎-elim, _↔_}
+use mathlib.Core.List.{List, [], _∷_, _++_, map, List·Memᴰ, List·Memᴰ·head, List·Memᴰ·tail}
+use Prim.Native.Nat.{ℕ, zero, suc, _+_, _≤_, _<_, min}
+use native.Mathlib.Decide.{decLt}
 use native.Mathlib.Omega.{arith}
 use borrow.Author.Tests.{le-ltb}
+use lib.IntN.{ℤ, pos as posℤ}
+use lib.ListN.{length, take, drop, replicate, length-map, length-append, length-replicate}
+use Rattle.general.specs.Booleans.{bit}
+use Rattle.literal.specs.declared.Literal.{Literal}
+use Rattle.literal.specs.declared.Literal.the-variants.{Pos, Neg}
+use Rattle.literal.specs.Literal.{var, entryOf, maxVariables, maxTable}
+use Rattle.receipt.specs.declared.Fault.the-variants.{PlanShort, ReceiptShort, TableShort}
+use Rattle.receipt.specs.declared.Outcome.{Outcome}
+use Rattle.receipt.specs.declared.Outcome.the-variants.{LaidOut, NoLayout, Stopped}
+use Rattle.receipt.specs.declared.Reading.{Reading}
+use Rattle.receipt.specs.declared.Reading.the-variants.{Read, Refused}
+use Rattle.receipt.specs.declared.Receipt.{Receipt}
 use Rattle.receipt.specs.declared.Refusal.{Refusal}
 use Rattle.receipt.specs.declared.Searching.{Searching}
-use Rattle.receipt.specs.Receipt.{refusal, searchingReceipt}
-use Rattle.theory.specs.Formula.{Choice}
-use Rattle.theory.specs.Search.{search, trailOf}
-use Rattle.theory.specs.Table.{Accepted}
-use Rattle.theory.specs.Tree.{Result}
-use Rattle.theory.specs.Calls.{over, searchAnswer, receiptBytes, ran, searchedRun, WindowCall, written, windowRoom, windowCall}
-use Rattle.theory.specs.Strip.{Read, goes, stops, readStrip}
+use Rattle.receipt.specs.Receipt.{numberOf, outcomeNumber, refusal}
+use Rattle.receipt.specs.Answers.{searchingReceipt}
+use Rattle.receipt.proofs.Numbers.{answers, not-refused}
+use Rattle.theory.specs.Bound.{N}
+use Rattle.theory.specs.Calls.{over, SearchCall, searchRefused, searchCall, readCall, solveCall, receiptLength, receiptBytes, WindowCall, written, windowCall}
+use Rattle.theory.specs.Encoding.{Item, groups, tableOf, entries, StripWithin, Bytes}
+use Rattle.theory.specs.Formula.{Clause, Formula, Choice, push, clauses, Solution}
+use Rattle.theory.specs.Order.{_≼_, Least}
+use Rattle.theory.specs.Search.{needs}
+use Rattle.theory.specs.Strip.{Decoding, nothingRead, readStrip}
+use Rattle.theory.proofs.Tables.{accepted-sizes}
 use Rattle.strip.proofs.Accepted.{read-accepted}
-use Rattle.search.proofs.Calling.{call-accepted}
-use Rattle.search.proofs.Promises.{Call, numberOf, larger-alike}
-use Rattle.window.specs.Stamp.{called}
+use Rattle.strip.proofs.Ends.{Ended, answered}
+use Rattle.strip.proofs.Promises.{within-reads, accepted-exactly}
+use Rattle.search.specs.Call as search
+use Rattle.search.proofs.Calling.{call-plan-short}
+use Rattle.search.proofs.Promises as promises
+use Rattle.window.specs.Window.{called}
+use Rattle.window.proofs.Calling.{call-short}
+use Rattle.window.specs.Call.{Acceptable, Stamped, Call, Reports, refusedCall, numberAt, countOf, Alike}
 
--- a call of the window with a receipt long enough: its number, and the lists before and after it
-pub record Windowed (s : List ℕ) (b : ℕ) (plan old : List ℕ) (number : ℕ) (plan′ new : List ℕ) : Type 0 where
-  pub receipt-room : 12 ≤ length old
-  pub is : called number plan′ new ≡ windowCall s b plan old
+-- the table of a strip within the limits ---------------------------------------------------------------------------
 
--- and what is searched: a strip that passes, with room in the plan
-pub record Reads (s plan : List ℕ) (r : Read) : Type 0 where
-  pub passes : readStrip s windowRoom ≡ goes r
-  pub plan-room : r .variables ≤ length plan
+entry-row : (c : Clause) (t : List ℤ) → ((x : Literal) → List·Memᴰ x c → 0 < var x) → clauses (map entryOf c ++ (posℤ 0 ∷ t)) ≡ c ∷ clauses t
+unfolding clauses
+entry-row [] t h = refl
+entry-row (Pos zero ∷ c) t h = absurd (omega (arith, h (Pos zero) (List·Memᴰ·head refl)))
+entry-row (Neg zero ∷ c) t h = absurd (omega (arith, h (Neg zero) (List·Memᴰ·head refl)))
+entry-row (Pos (suc p) ∷ c) t h = ap (push (Pos (suc p))) (entry-row c t (λ x m. h x (List·Memᴰ·tail m)))
+entry-row (Neg (suc p) ∷ c) t h = ap (push (Neg (suc p))) (entry-row c t (λ x m. h x (List·Memᴰ·tail m)))
 
--- the window's answer is that of a call of Search
-pub record Searches (r : Read) (b : ℕ) (plan old : List ℕ) (number : ℕ) (plan′ new : List ℕ) : Type 0 where
-  pub answer : Searching
-  pub trail : List ℤ
-  pub call : Call (r .variables) (r .table) b plan (replicate (r .variables) (posℤ 0)) answer plan′ trail
-  pub number-is : number ≡ numberOf answer
-  pub receipt-is : new ≡ over 12 (receiptBytes (searchingReceipt answer)) old
+-- the table of a formula is read as that formula
+table-clauses : (f : Formula) → ((c : Clause) (x : Literal) → List·Memᴰ c f → List·Memᴰ x c → 0 < var x) → clauses (tableOf f) ≡ f
+unfolding tableOf clauses
+table-clauses [] h = refl
+table-clauses (c ∷ f) h =
+    entry-row c (tableOf f) (λ x. h c x (List·Memᴰ·head refl)) ∙ ap (λ (g : Formula). c ∷ g) (table-clauses f (λ d x m. h d x (List·Memᴰ·tail m)))
 
-module _ {s : List ℕ} {b : ℕ} {plan old : List ℕ} {number : ℕ} {plan′ new : List ℕ} (w : Windowed s b plan old number plan′ new) where
-  pub window-searches : (r : Read) → Reads s plan r → Searches r b plan old number plan′ new
+table-length : (f : Formula) → length (tableOf f) ≡ length f + entries f
+unfolding tableOf entries
+table-length [] = refl
+table-length (c ∷ f) = omega (arith, table-length f, length-append (map entryOf c) (posℤ 0 ∷ tableOf f), length-map c entryOf)
+
+within-read : {s : List ℕ} {n : ℕ} {l : List Item} → Bytes s → StripWithin s n l → readStrip s maxTable ≡ record { reading = Read n (length (tableOf (groups l))); table = tableOf (groups l) }
+within-read {s} {n} {l} b w = within-reads s b maxTable n l w (omega (arith, table-length (groups l), w .clauses, w .literals))
+
+strip-exactly : (s : List ℕ) → Bytes s → (n u : ℕ) (t : List ℤ) → length t ≡ maxTable → readStrip s maxTable .reading ≡ Read n u → (l : List Item) × StripWithin s n l
+unfolding readCall
+strip-exactly s b n u t k e = let r = accepted-exactly s t (readCall s t .answer) (readCall s t .table) refl b n u .0 (rw k e) in (r .0, r .1)
+
+-- what is on the receipt -------------------------------------------------------------------------------------------
+
+numbers-read : (r : Receipt) (old : List ℕ) → let new = over receiptLength (receiptBytes r) old in
+    (numberAt 0 new ≡ r .number) × (numberAt 4 new ≡ r .place) × (numberAt 8 new ≡ r .count)
+numbers-read r old = (omega arith, omega arith, omega arith)
+
+-- solving, by how the strip reads ----------------------------------------------------------------------------------
+
+module _ (s : List ℕ) (b : ℕ) (plan : List ℕ) (trail : List ℤ) where
+  solve-refused : (f : Refusal) → readStrip s maxTable .reading ≡ Refused f → solveCall s b plan trail ≡ searchRefused f plan trail
+  unfolding solveCall
+  solve-refused f e = rw e
+
+  solve-reads : (n u : ℕ) → readStrip s maxTable .reading ≡ Read n u → solveCall s b plan trail ≡ searchCall n (readStrip s maxTable .table) b plan trail
+  unfolding solveCall
+  solve-reads n u e = rw e
+
+outcome-answers : (o : Outcome) → answers (outcomeNumber o) ≡ true
+outcome-answers LaidOut = refl
+outcome-answers NoLayout = refl
+outcome-answers Stopped = refl
+
+outcome-not-short : (o : Outcome) → ¬ (outcomeNumber o ≡ numberOf TableShort)
+outcome-not-short LaidOut e = omega arith
+outcome-not-short NoLayout e = omega arith
+outcome-not-short Stopped e = omega arith
+
+-- no other refusal has the number of a table short
+refused-not-short : (s : List ℕ) (f : Refusal) → readStrip s maxTable .reading ≡ Refused f → ¬ (numberOf (f .fault) ≡ numberOf TableShort)
+refused-not-short s f e = let a : Ended s maxTable 0 nothingRead [] (Refused f) (readStrip s maxTable .table) = rw e at (answered s maxTable) in a .2 (omega arith)
+
+-- demand 1: a receipt too short --------------------------------------------------------------------------------------
+
+-- "Window: 9" first; such a receipt is not written, and nothing else is
+pub window-short-receipt : (s : List ℕ) (b : ℕ) (plan old : List ℕ) (w : WindowCall) → w ≡ windowCall s b plan old → length old < receiptLength →
+    w ≡ called (numberOf ReceiptShort) plan old
+window-short-receipt s b plan old w is h = is ∙ sym (call-short s b plan old h)
+
+-- demand 1: a receipt long enough ------------------------------------------------------------------------------------
+
+module _ {s : List ℕ} {b : ℕ} {plan old : List ℕ} {w : WindowCall} (h : Stamped s b plan old w) where
+  abbrev own : List ℤ
+  own = replicate maxVariables (posℤ 0)
+
+  stamped : w ≡ written (solveCall s b plan own) old
   unfolding windowCall
-  window-searches r h = record {
-    answer = searchAnswer (found .count) (found .outcome);
-    trail = over n (trailOf n (found .outcome)) zeros;
-    call = record {
-      accepted = ok;
-      plan-room = h .plan-room;
-      trail-room = omega (arith, length-replicate n (posℤ 0));
-      is = ap (λ (p : List ℕ). record { answer = searchAnswer (found .count) (found .outcome); plan = p; trail = over n (trailOf n (found .outcome)) zeros }) (ap (λ (c : WindowCall). c .plan) run)
-          ∙ call-accepted n (r .table) b plan zeros ok (h .plan-room) (omega (arith, length-replicate n (posℤ 0)));
-    };
-    number-is = ap (λ (c : WindowCall). c .number) run;
-    receipt-is = ap (λ (c : WindowCall). c .receipt) run;
+  stamped = h .is ∙ rw (le-ltb (length old) receiptLength (h .receipt-room))
+
+  -- "The call itself returns the number": the one on the receipt
+  pub window-number : numberAt 0 (w .receipt) ≡ w .number
+  window-number = rw stamped (numbers-read (searchingReceipt (solveCall s b plan own .answer)) old .0)
+
+  -- "Elements not named are never changed."
+  pub window-receipt-rest : drop receiptLength (w .receipt) ≡ drop receiptLength old
+  window-receipt-rest = rw stamped
+
+  -- "Window: 9, strip refusals except 23": of a refused strip
+  pub window-strip-refused : (f : Refusal) → readStrip s maxTable .reading ≡ Refused f → w ≡ refusedCall f plan old
+  window-strip-refused f e = stamped ∙ ap (λ (c : SearchCall). written c old) (solve-refused s b plan own f e)
+
+  module _ (n u : ℕ) (e : readStrip s maxTable .reading ≡ Read n u) where
+    read : w ≡ written (searchCall n (readStrip s maxTable .table) b plan own) old
+    read = stamped ∙ ap (λ (c : SearchCall). written c old) (solve-reads s b plan own n u e)
+
+    -- "then 6"
+    pub window-plan-short : length plan < n → w ≡ refusedCall (refusal PlanShort 0) plan old
+    window-plan-short k = read ∙ ap (λ (c : SearchCall). written c old) (sym (call-plan-short n (readStrip s maxTable .table) b plan own (read-accepted s maxTable n u e) k))
+
+    searched : n ≤ length plan → search.Call n (readStrip s maxTable .table) b plan own (searchCall n (readStrip s maxTable .table) b plan own)
+    searched k =
+        let a = accepted-sizes n (readStrip s maxTable .table) (read-accepted s maxTable n u e) in
+        record { acceptable = record { table = a; plan-room = k; trail-room = omega (arith, a .variables, length-replicate maxVariables (posℤ 0)) }; is = refl }
+
+  -- every call is refused, or searches what was read
+  abbrev Turned : Type 0
+  Turned = (f : Refusal) × (w ≡ refusedCall f plan old) × ¬ (numberOf (f .fault) ≡ numberOf TableShort)
+
+  abbrev Answered : Type 0
+  Answered = (n : ℕ) × (u : ℕ) × (readStrip s maxTable .reading ≡ Read n u) × (n ≤ length plan) × ((o : Outcome) × Reports w o)
+
+  fate : Turned ⊎ Answered
+  fate = go (readStrip s maxTable .reading) refl
+    where
+      go : (r : Reading) → readStrip s maxTable .reading ≡ r → Turned ⊎ Answered
+      go (Refused f) e = inl (f, window-strip-refused f e, refused-not-short s f e)
+      go (Read n u) e = elim (decLt (length plan) n) [
+        | yes k ↦ inl (refusal PlanShort 0, window-plan-short n u e k, λ z. omega arith)
+        | no k ↦
+            let l : n ≤ length plan = omega arith in
+            let q = ap (λ (c : WindowCall). c .number) (read n u e) in
+            inr (n, u, e, l, ⊎-elim (λ r. (LaidOut, q ∙ r)) (⊎-elim (λ r. (NoLayout, q ∙ r)) (λ r. (Stopped, q ∙ r))) (promises.ends (searched n u e l)))
+      ]
+
+  turned-unanswered : Turned → (o : Outcome) → ¬ Reports w o
+  turned-unanswered r o e = not-refused (r .0 .fault) (outcomeNumber o) (outcome-answers o) (sym (ap (λ (c : WindowCall). c .number) (r .1)) ∙ e)
+
+  -- demand 1: "a refused call changes no lent element except a receipt long enough to be written"
+  pub window-refused-unchanged : ((o : Outcome) → ¬ Reports w o) → (f : Refusal) × (w ≡ refusedCall f plan old)
+  window-refused-unchanged k = ⊎-elim (λ r. (r .0, r .1)) (λ a. absurd (k (a .4 .0) (a .4 .1))) fate
+
+  not-short : ¬ (w .number ≡ numberOf TableShort)
+  not-short e = ⊎-elim (λ r. r .2 (sym (ap (λ (c : WindowCall). c .number) (r .1)) ∙ e)) (λ a. outcome-not-short (a .4 .0) (sym (a .4 .1) ∙ e)) fate
+
+-- "strip refusals except 23": no call is answered with it
+pub window-never-short : (s : List ℕ) (b : ℕ) (plan old : List ℕ) (w : WindowCall) → w ≡ windowCall s b plan old → ¬ (w .number ≡ numberOf TableShort)
+window-never-short s b plan old w is e = elim (decLt (length old) receiptLength) [
+  | yes k ↦ let z : numberOf ReceiptShort ≡ numberOf TableShort = sym (ap (λ (c : WindowCall). c .number) (window-short-receipt s b plan old w is k)) ∙ e in omega arith
+  | no k ↦ not-short (record { receipt-room = omega arith; is = is }) e
+]
+
+-- acceptable strips --------------------------------------------------------------------------------------------------
+
+module _ {s : List ℕ} {n : ℕ} {l : List Item} {b : ℕ} {plan old : List ℕ} {w : WindowCall} (h : Call s n l b plan old w) where
+  abbrev table : List ℤ
+  table = tableOf (groups l)
+
+  abbrev trail : List ℤ
+  trail = replicate maxVariables (posℤ 0)
+
+  is-read : readStrip s maxTable ≡ record { reading = Read n (length table); table = table }
+  is-read = within-read (h .bytes) (h .acceptable .strip)
+
+  reads : readStrip s maxTable .reading ≡ Read n (length table)
+  reads = ap (λ (d : Decoding). d .reading) is-read
+
+  abbrev found : SearchCall
+  found = searchCall n table b plan trail
+
+  -- the window's answer is that of a call of Search on the table of the strip's groups
+  pub window-searches : search.Call n table b plan trail found × (w ≡ written found old)
+  window-searches =
+      let q = ap (λ (d : Decoding). d .table) is-read in
+      let k = reads in
+      (rw q at (searched (h .stamped) n (length table) k (h .acceptable .plan-room)), rw q at (read (h .stamped) n (length table) k))
+
+  call : search.Call n table b plan trail found
+  call = window-searches .0
+
+  plan-is : w .plan ≡ found .plan
+  plan-is = ap (λ (c : WindowCall). c .plan) (window-searches .1)
+
+  count-is : countOf w ≡ search.countOf found
+  count-is = rw (window-searches .1) (numbers-read (searchingReceipt (found .answer)) old .2)
+
+  reports : {k : ℕ} → w .number ≡ k → searchingReceipt (found .answer) .number ≡ k
+  reports e = sym (ap (λ (c : WindowCall). c .number) (window-searches .1)) ∙ e
+
+  reported : {k : ℕ} → searchingReceipt (found .answer) .number ≡ k → w .number ≡ k
+  reported e = ap (λ (c : WindowCall). c .number) (window-searches .1) ∙ e
+
+  is-formula : clauses table ≡ groups l
+  is-formula = table-clauses (groups l) (h .acceptable .strip .known .low)
+
+  -- demand 1: "a search brings back a layout, no layout, or a stop"
+  pub window-ends : Reports w LaidOut ⊎ Reports w NoLayout ⊎ Reports w Stopped
+  window-ends = ⊎-elim (λ e. inl (reported e)) (⊎-elim (λ e. inr (inl (reported e))) (λ e. inr (inr (reported e)))) (promises.ends call)
+
+  -- demand 2: "it is the first such choice, counting from placement 1 with left out before taken"
+  pub window-first-layout : Reports w LaidOut → (f : Choice) × Least _≼_ (Solution n (groups l)) f × (take n (w .plan) ≡ map bit f)
+  window-first-layout e = rw plan-is (rw is-formula at (promises.first-layout call (reports e)))
+
+  -- demand 2: "When no choice does so it reports no layout, and at no other time"
+  pub window-no-layout-exactly : ¬ Reports w Stopped → Reports w NoLayout ↔ ((f : Choice) → ¬ Solution n (groups l) f)
+  window-no-layout-exactly k =
+      let p = rw is-formula at (promises.no-layout-exactly call (λ e. k (reported e))) in
+      (λ e. p .0 (reports e), λ g. reported (p .1 g))
+
+  -- demand 2: "reports a layout when some choice of placements makes exactly one entry true in every group of the whole filing"
+  pub window-layout-when-some : ¬ Reports w Stopped → (f : Choice) → Solution n (groups l) f → Reports w LaidOut
+  window-layout-when-some k f g = reported (promises.layout-when-some call (λ e. k (reported e)) f (rw is-formula g))
+
+  -- demand 3: "an accepted search stops exactly when the tree of document 01 needs more splits than allowed"
+  pub window-stops-exactly : Reports w Stopped ↔ (b < needs n table)
+  window-stops-exactly = let p = promises.stops-exactly call in (λ e. p .0 (reports e), λ k. reported (p .1 k))
+
+  -- demand 3: "its count is the smaller of what that tree needs and the allowance"
+  pub window-count : countOf w ≡ min (needs n table) b
+  window-count = count-is ∙ promises.count-smaller call
+
+  -- "A stop's count is the allowance."
+  pub window-stop-count : Reports w Stopped → countOf w ≡ b
+  window-stop-count e = count-is ∙ promises.stop-count call (reports e)
+
+  -- demand 3: "For n placements the tree never needs more than the bound N(n)"
+  pub window-count-bound : countOf w ≤ N n
+  window-count-bound = rw count-is (promises.count-bound call)
+
+  -- "An allowance of N(n), where 32 bits hold it, always finishes."
+  pub window-bound-finishes : N n ≤ b → ¬ Reports w Stopped
+  window-bound-finishes k e = promises.bound-finishes call k (reports e)
+
+  -- "No layout or stopped: the first n of both become 0."
+  pub window-others-zero : ¬ Reports w LaidOut → take n (w .plan) ≡ replicate n 0
+  window-others-zero k = rw plan-is (promises.others-zero call (λ e. k (reported e)) .0)
+
+  -- demand 3: "the rest of both lists stays as it was"
+  pub window-rest-kept : drop n (w .plan) ≡ drop n plan
+  window-rest-kept = rw plan-is (promises.rest-kept call .0)
+
+-- demand 1: "Every table and strip within the limits of document 01, with room lent for the results, is accepted"; "Every other input is refused"
+pub window-accepts : {s : List ℕ} {b : ℕ} {plan old : List ℕ} {w : WindowCall} → Stamped s b plan old w → Bytes s →
+    ((o : Outcome) × Reports w o) ↔ ((n : ℕ) × (l : List Item) × Acceptable s n l plan)
+window-accepts {s} h bytes = (
+  λ r. ⊎-elim
+      (λ t. absurd (turned-unanswered h t (r .0) (r .1)))
+      (λ a.
+      let l = strip-exactly s bytes (a .0) (a .1) (replicate maxTable (posℤ 0)) (length-replicate maxTable (posℤ 0)) (a .2) in
+      (a .0, l .0, record { strip = l .1; plan-room = a .3 }))
+      (fate h),
+  λ a. ⊎-elim (λ e. (LaidOut, e)) (⊎-elim (λ e. (NoLayout, e)) (λ e. (Stopped, e))) (window-ends (record { bytes = bytes; acceptable = a .2; stamped = h })),
+)
+
+-- demand 3: "whatever the plan and the trail held before", and whatever the strip's chapters: its groups are the filing ------------------------------
+
+module _ {s s′ : List ℕ} {n : ℕ} {l l′ : List Item} {b b′ : ℕ} {plan plan′ old old′ : List ℕ} {w w′ : WindowCall}
+    (c : Call s n l b plan old w) (d : Call s′ n l′ b′ plan′ old′ w′) (same : groups l′ ≡ groups l) where
+  alike : search.Alike n (found c) (found d) → Alike n w w′
+  alike a = record {
+    number = reported d (ap (λ (u : Searching). searchingReceipt u .number) (a .answer) ∙ reports c refl);
+    count = count-is d ∙ ap (λ (u : Searching). searchingReceipt u .count) (a .answer) ∙ sym (count-is c);
+    plan = ap (take n) (plan-is d) ∙ a .plan ∙ sym (ap (take n) (plan-is c));
   }
-    where
-      n : ℕ
-      n = r .variables
 
-      zeros : List ℤ
-      zeros = replicate n (posℤ 0)
+  -- "A search that finishes does so at every larger allowance too"
+  pub window-alike : b ≤ b′ → ¬ Reports w Stopped → Alike n w w′
+  window-alike k f = alike (rw same (promises.larger-alike (call c) (rw same at (call d)) k (λ e. f (reported c e))))
 
-      ok : Accepted n (r .table)
-      ok = read-accepted s windowRoom r (h .passes)
-
-      found : Result Choice
-      found = search n (r .table) b
-
-      run : called number plan′ new ≡ written (searchedRun n found plan) old
-      run = w .is ∙ rw (le-ltb (length old) 12 (w .receipt-room), h .passes, le-ltb (length plan) n (h .plan-room))
-
-  -- demand 1: a refused strip leaves the plan, and its number and place are on the receipt
-  pub window-refuses : (f : Refusal) → readStrip s windowRoom ≡ stops f → (number ≡ refusal f .number) × (plan′ ≡ plan) × (new ≡ over 12 (receiptBytes (refusal f)) old)
-  unfolding windowCall
-  window-refuses f e = (ap (λ (c : WindowCall). c .number) run, ap (λ (c : WindowCall). c .plan) run, ap (λ (c : WindowCall). c .receipt) run)
-    where
-      run : called number plan′ new ≡ written (ran (refusal f) plan) old
-      run = w .is ∙ rw (le-ltb (length old) 12 (w .receipt-room), e)
-
--- demand 3: a search that finishes is the same at every larger allowance, whatever the plans held before
-pub window-alike : {s : List ℕ} {b b′ : ℕ} {plan plan₂ old old₂ : List ℕ} {number number′ : ℕ} {p p′ new new′ : List ℕ} (r : Read) →
-    Windowed s b plan old number p new → Windowed s b′ plan₂ old₂ number′ p′ new′ → Reads s plan r → Reads s plan₂ r →
-    b ≤ b′ → ¬ (number ≡ 11) → (number′ ≡ number) × (take (r .variables) p′ ≡ take (r .variables) p)
-window-alike r w v h k l e =
-    let c = window-searches w r h in
-    let d = window-searches v r k in
-    let a = larger-alike (c .call) (d .call) l (λ q. e (c .number-is ∙ q)) in
-    (d .number-is ∙ ap numberOf (a .answer) ∙ sym (c .number-is), a .plan)
+  -- "all finished searches of one filing are alike in the outcome, the count, the first n of the plan"
+  pub window-finished-alike : ¬ Reports w Stopped → ¬ Reports w′ Stopped → Alike n w w′
+  window-finished-alike f g =
+      alike (rw same (promises.finished-alike (call c) (rw same at (call d)) (λ e. f (reported c e)) (λ e. g (reported d (rw same e)))))

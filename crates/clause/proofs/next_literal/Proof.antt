@@ -1,11 +1,10 @@
 -- `next_literal` meets its contract: what stands from the index of each turn on is what stands from the first on.
 use mathlib.Core.Path.{_≡_, refl, ap, sym, _∙_}
-use Prim.Native.Nat.{_≤_, _+_, _-_}
+use Prim.Native.Nat.{_≤_, _-_}
 use borrow.Author.Needs.{needs}
 use borrow.Author.Tests.{not-true, not-false}
 use native.Mathlib.Omega.{arith}
-use lib.IntN.{pos}
-use lib.ListN.{length, getD}
+use lib.ListN.{length}
 use Rattle.literal.proofs.Entries.{var-literalOf}
 use Rattle.theory.specs.State.{value}
 use Rattle.state.specs.State.{stateOf}

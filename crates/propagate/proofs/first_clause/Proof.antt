@@ -4,19 +4,15 @@ use mathlib.Core.Path.{_≡_, refl, _∙_}
 use native.Mathlib.Omega.{arith}
 use borrow.Author.Needs.{needs}
 use lib.ListN.{length}
-use Rattle.theory.specs.Propagation.{firstClause}
-use Rattle.clause.specs.Reading.{Begins, clausesFrom}
+use Rattle.clause.specs.Reading.{Begins}
 use Rattle.clause.proofs.Clauses.{Advances, advances}
-use Rattle.rules.specs.Rules.{ruleAt}
+use Rattle.propagate.specs.Code.{firstFrom}
 use Rattle.propagate.proofs.Scanning.{first-asks, first-passes, first-end}
 use Rattle.propagate.proofs.first_clause.Statement.{statement}
 use Rattle.propagate.proofs.first_clause.Tie as tie
 
 abbrev Inv-loop : tie.InvT-loop
-Inv-loop table values rule from k₀ i₀ k i =
-    Begins table i
-    × (k ≤ i + 1)
-    × (firstClause (ruleAt table values rule) k (clausesFrom table values i) ≡ firstClause (ruleAt table values rule) k₀ (clausesFrom table values from))
+Inv-loop table values rule from k₀ i₀ k i = Begins table i × (k ≤ i + 1) × (firstFrom table values rule k i ≡ firstFrom table values rule k₀ from)
 
 abbrev μ-loop : tie.MeasureT-loop
 μ-loop table values rule from k₀ i₀ k i = length table - i

@@ -9,15 +9,14 @@ use Rattle.theory.specs.Propagation.{firstPair}
 use Rattle.clause.specs.Reading.{Begins, clausesFrom}
 use Rattle.clause.proofs.Clauses.{Advances, advances, begins-first}
 use Rattle.rules.specs.Rules.{pairRule}
+use Rattle.propagate.specs.Code.{firstOfPairs}
 use Rattle.propagate.proofs.Scanning.{pair-asks, pair-passes, pair-dead, pair-end}
 use Rattle.propagate.proofs.first_pair.Statement.{statement}
 use Rattle.propagate.proofs.first_pair.Tie as tie
 
 abbrev Inv-loop : tie.InvT-loop
 Inv-loop table values rule k₀ g₀ k g =
-    Begins table g
-    × (k ≤ g + 1)
-    × (firstPair (pairRule rule) k (clausesFrom table values g) ≡ firstPair (pairRule rule) 1 (clausesFrom table values 0))
+    Begins table g × (k ≤ g + 1) × (firstPair (pairRule rule) k (clausesFrom table values g) ≡ firstOfPairs table values rule)
 
 abbrev μ-loop : tie.MeasureT-loop
 μ-loop table values rule k₀ g₀ k g = length table - g
@@ -33,7 +32,8 @@ returns c =
     let n = f .before .before .before in
     let l = n .before .before in
     let a = l .before .args in
-    rw (c .enum-told .given .1) (pair-asks (a .rule) (a .values .now) (l .loop .k) (further n) (rw (c .enum-told .given .1) at (f .first-clause .ensures)) ∙ l .loop .inv .2)
+    rw (c .enum-told .given .1)
+    (pair-asks (a .rule) (a .values .now) (l .loop .k) (further n) (rw (c .enum-told .given .1) at (f .first-clause .ensures)) ∙ l .loop .inv .2)
 
 loop-again : tie.Need-loop-again Inv-loop μ-loop
 loop-again c =

@@ -1,5 +1,6 @@
 -- `command_of` meets its contract: each return has the tests of those before it behind it.
 use mathlib.Core.Path.{_≡_, sym, ap, _∙_}
+use mathlib.Core.Bool.{false}
 use Prim.Native.Nat.{_+_, _-_, _<_, _≤_}
 use borrow.Author.Needs.{needs}
 use borrow.Author.Tests.{ltb-true, ltb-false, le-leb, lt-leb, not-true, not-false}
@@ -13,7 +14,9 @@ turned : (c : tie.After-same) → let a = c .before .before .before .args in sam
 turned c = sym (c .same .ensures ∙ ap (same (c .before .before .before .args .turn)) (c .before .turn-of .ensures))
 
 returns : tie.Need-returns
-returns c = rw (c .new .ensures, turned (c .before .before .before) ∙ not-true _ (c .before .if1 .taken))
+returns c =
+    let out : c .before .before .before .same .result ≡ false = not-true _ (c .before .if1 .taken) in
+    rw (c .new .ensures, turned (c .before .before .before) ∙ out)
 
 returns-2 : tie.Need-returns-2
 returns-2 c =

@@ -1,5 +1,5 @@
 -- `first_paired` meets its contract: what is left of the clause gives the same first literal as the whole.
-use mathlib.Core.Path.{_≡_, refl, sym, _∙_}
+use mathlib.Core.Path.{_≡_, refl, ap, sym, _∙_}
 use mathlib.Core.Bool.{not}
 use Prim.Native.Nat.{_-_, _<_}
 use native.Mathlib.Omega.{arith}
@@ -38,7 +38,7 @@ tested : (c : tie.After-first-that Inv-loop μ-loop) →
     let a = k .before .before .before .before .before .args in
     (h : Clause) → CountsOf (a .counts .now) h →
     pairs (a .test) (clauseAt (a .table .now) (a .values .now) (a .g)) h (k .before .next .given .0 .0) ≡ not (isNone (found (c .first-that .result)))
-tested c h counts = rw (← c .before .before .passes .ensures h counts, c .before .if1 .taken, ← c .first-that .ensures h counts)
+tested c h counts = rw (← c .before .before .passes .ensures h counts, c .before .if1 .taken) (ap (λ o. not (isNone o)) (sym (c .first-that .ensures h counts)))
 
 returns-2 : tie.Need-returns-2 Inv-loop μ-loop
 returns-2 c = λ h counts.

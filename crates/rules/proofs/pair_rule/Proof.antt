@@ -1,5 +1,4 @@
 -- `pair_rule` meets its contract: where nothing is asked, or a clause is not live, the rule does not fit.
-use mathlib.Core.Path.{_≡_, sym, _∙_}
 use borrow.Author.Needs.{needs}
 use Rattle.general.specs.Booleans.{cond-same}
 use Rattle.rules.proofs.Pairs.{pair-live}

@@ -1,5 +1,5 @@
 -- `pair_step` meets its contract.
-use mathlib.Core.Path.{_≡_, sym, ap, _∙_}
+use mathlib.Core.Path.{_≡_, ap, _∙_}
 use mathlib.Core.Option.{none, some, Option·map, bind}
 use borrow.Author.Needs.{needs}
 use Rattle.literal.specs.declared.Literal.{Literal}

@@ -1,11 +1,7 @@
 -- `rule_3` meets its contract.
-use mathlib.Core.Path.{_≡_, ap, sym, _∙_}
+use mathlib.Core.Path.{_≡_, ap, _∙_}
 use mathlib.Core.List.{[], _∷_}
-use mathlib.Core.Option.{none}
 use borrow.Author.Needs.{needs}
-use Rattle.literal.specs.declared.Literal.{Literal}
-use Rattle.theory.specs.Formula.{Clause}
-use Rattle.theory.specs.Rules.{rule3}
 use Rattle.clause.specs.Reading.{clauseAt}
 use Rattle.rules.proofs.rule_3.Statement.{statement}
 use Rattle.rules.proofs.rule_3.Tie as tie

@@ -1,15 +1,13 @@
 -- The walk: `settle_and_decide` and `split` meet their contracts together. The number of open variables falls at each split.
 use Prim.Native.Nat.{ℕ, _<_, _≤_, _+_, _*_, _-_}
 use mathlib.Core.Path.{_≡_, refl, ap, sym, _∙_}
-use mathlib.Core.List.{[], _∷_}
 use mathlib.Core.Option.{none, some}
 use borrow.Author.Needs.{needs}
 use native.Mathlib.Omega.{arith}
 use denote.Ref.{now}
-use lib.ListN.{length}
 use borrow.Fn.Kinds.{In}
 use borrow.Fn.PlainCycle.{Measures, is, falls, and}
-use Rattle.literal.specs.declared.Literal.the-variants.{Pos, Neg}
+use Rattle.literal.specs.declared.Literal.the-variants.{Pos}
 use Rattle.literal.specs.Literal.{TRUE, FALSE}
 use Rattle.receipt.specs.declared.Outcome.the-variants.{NoLayout}
 use Rattle.theory.specs.Formula.{clauses}
@@ -154,13 +152,13 @@ pub +settle-and-decide+split-spec : {M : Type 1} → statement M
     (λ c κs.
     let g = c .before .before in
     let w = g .before .before .before .pre in
-    let s = side-walkable (w .1 .0) (w .1 .1) FALSE refl _ (g .assign .ensures .0) (g .assign .ensures .1) _ _ refl refl in
+    let s = side-walkable (w .1 .0) (w .1 .1) _ refl _ (g .assign .ensures .0) (g .assign .ensures .1) _ _ refl refl in
     (omega (arith, s .0, w .0), s .1))
     (λ c. search needs)
     (λ c κs.
     let f = c .before .before .before .before .before in
     let s = f .before .before .before .before .before .before in
-    side-passable (s .pre .1 .0) (s .pre .1 .1) _ 1 (s .args .left) (omega (arith, first-count t f)) (s .fits .left) (Neg (s .args .p .0)) refl _ (f .settle-and-decide .kept .1 .1 .1 .1 .1 .1 .0))
+    side-passable (s .pre .1 .0) (s .pre .1 .1) _ _ (s .args .left) (omega (arith, first-count t f)) (s .fits .left) _ refl _ (f .settle-and-decide .kept .1 .1 .1 .1 .1 .1 .0))
     (λ c. search needs)
     (λ c. search needs)
     (λ c.
@@ -179,14 +177,14 @@ pub +settle-and-decide+split-spec : {M : Type 1} → statement M
     let y = c .before .before in
     let f = y .before .before .before .before .before .before .before in
     let w = f .before .before .before .before .before .before .pre in
-    let s = side-walkable (w .1 .0) (w .1 .1) TRUE refl _ (y .assign2 .ensures .0) (y .assign2 .ensures .1) _ _ (f .settle-and-decide .kept .1 .1 .1 .1 .1 .0) (f .settle-and-decide .kept .1 .1 .1 .1 .1 .1 .0) in
+    let s = side-walkable (w .1 .0) (w .1 .1) _ refl _ (y .assign2 .ensures .0) (y .assign2 .ensures .1) _ _ (f .settle-and-decide .kept .1 .1 .1 .1 .1 .0) (f .settle-and-decide .kept .1 .1 .1 .1 .1 .1 .0) in
     (omega (arith, s .0, w .0), s .1))
     (λ c κs.
     let b = c .before .before .before .before in
     let f = b .before .before .before .before .before .before .before .before .before .before in
     let s = f .before .before .before .before .before .before in
-    side-passable (s .pre .1 .0) (s .pre .1 .1) _ (1 + f .settle-and-decide .result .count) (s .args .left)
-    (omega (arith, first-count t f, walk-count _ _ _ _ _ _ _ (second-walk t b))) (s .fits .left) (Pos (s .args .p .0)) refl _
+    side-passable (s .pre .1 .0) (s .pre .1 .1) _ _ (s .args .left)
+    (omega (arith, first-count t f, walk-count _ _ _ _ _ _ _ (second-walk t b))) (s .fits .left) _ refl _
     (b .settle-and-decide2 .kept .1 .1 .1 .1 .1 .1 .0 ∙ f .settle-and-decide .kept .1 .1 .1 .1 .1 .1 .0))
     (λ c. search needs)
     (λ c. search needs)

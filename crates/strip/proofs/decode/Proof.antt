@@ -1,8 +1,8 @@
 -- `decode` meets its contract, by the laws of Reached.
-use mathlib.Core.Path.{_≡_, sym, ap, _∙_}
+use mathlib.Core.Path.{_≡_, sym, _∙_}
 use Prim.Native.Nat.{_<_, _-_}
 use borrow.Author.Needs.{needs}
-use borrow.Author.Tests.{lt-ltb, not-true, not-false}
+use borrow.Author.Tests.{lt-ltb}
 use native.Mathlib.Omega.{arith}
 use lib.IntN.{pos}
 use lib.ListN.{length, length-replicate}
@@ -12,7 +12,7 @@ use Rattle.literal.specs.Literal.{maxTable}
 use Rattle.theory.specs.declared.Stored.the-variants as stored
 use Rattle.theory.specs.declared.Obeyed.the-variants as obeyed
 use Rattle.theory.specs.Strip.{obey, readStrip}
-use Rattle.strip.proofs.Reached.{Reached, begun, cut, whole, no-command, Commanded, further, not-obeyed, kept, no-room, has-cell, stored}
+use Rattle.strip.proofs.Reached.{Reached, begun, ended, no-command, Commanded, further, not-obeyed, kept, no-room, has-cell, stored}
 use Rattle.strip.proofs.decode.Statement.{statement}
 use Rattle.strip.proofs.decode.Tie as tie
 
@@ -36,8 +36,9 @@ returns-2 c =
 -- a command
 commanded : (c : tie.After-found Inv-loop μ-loop) →
     let l = c .before .before .before .before in
+    let a = l .before .before .before .args in
     let m = c .found .given .0 in
-    Commanded (l .before .before .before .args .strip .now) (l .before .before .before .args .room) (l .loop .at) (l .loop .used) (l .loop .progress) (l .loop .cells) (m .0) (m .1 .0) (m .1 .1 .0)
+    Commanded (a .strip .now) (a .room) (l .loop .at) (l .loop .used) (l .loop .progress) (l .loop .cells) (m .0) (m .1 .0) (m .1 .1 .0)
 commanded c =
     let r = c .before .before .before in
     record { reached = r .before .loop .inv; inside = r .loop-test .taken; command = sym (c .found .given .1) ∙ c .before .before .command-from .ensures }
@@ -92,16 +93,7 @@ less c = omega (arith, further (commanded c), commanded c .inside)
 
 -- the end of the strip
 returns-5 : tie.Need-returns-5 Inv-loop μ-loop
-returns-5 c =
-    let k = c .before in
-    let l = k .before .before in
-    c .refused4 .ensures
-    ∙ cut (l .before .loop .inv) (l .loop-test .left) (sym (k .before .same .ensures) ∙ not-true _ (k .if3 .taken))
-
-returns-6 : tie.Need-returns-6 Inv-loop μ-loop
-returns-6 c =
-    let l = c .before .before .before in
-    whole (l .before .loop .inv) (l .loop-test .left) (sym (c .before .before .same .ensures) ∙ not-false _ (c .before .if3 .left))
+returns-5 c = ended (c .before .before .loop .inv) (c .before .loop-test .left) (c .ending .result) (c .ending .ensures)
 
 pub decode-spec : {M : Type 1} → statement M
 decode-spec =
@@ -134,7 +126,4 @@ decode-spec =
     (λ c. less (c .before .before .before .before .before .before .before))
     loop-again-2
     (λ c κs. search needs)
-    (λ c κs. search needs)
-    returns-5
-    (λ c. search needs)
-    returns-6)
+    returns-5)

@@ -1,5 +1,4 @@
 -- `entered` meets its contract: each return has the tests of those before it behind it.
-use mathlib.Core.Path.{_∙_}
 use mathlib.Core.Logic.{⊎-elim}
 use borrow.Author.Needs.{needs}
 use borrow.Author.Tests.{lt-ltb, le-ltb, eq-eqb, ne-eqb, ltb-false}
@@ -15,14 +14,24 @@ returns c =
     ⊎-elim (λ w. rw (← e, eq-eqb _ 0 (w .taken))) (λ w. rw (← e, ne-eqb _ 0 (w .0 .left), w .2 .taken)) (c .if1 .came)
 
 entry-requires : tie.Need-entry-requires
-entry-requires c κs = let k = c .before .before .before in omega (arith, k .before .before .before .variable .ensures, ltb-false (k .before .before .before .before .args .progress .variables) (k .before .before .before .variable .result .0) (k .if2 .left))
+entry-requires c κs =
+    let k = c .before .before .before in
+    let v = k .before .before .before in
+    omega (arith, v .variable .ensures, ltb-false (v .before .args .progress .variables) (v .variable .result .0) (k .if2 .left))
 
 returns-2 : tie.Need-returns-2
 returns-2 c =
     let k = c .before .before .before .before .before in
     let e = k .before .before .before .variable .ensures in
-    c .goes .ensures
-    ∙ rw (← e, ne-eqb _ 0 (k .before .before .if1 .left), k .if2 .left, lt-ltb _ _ (c .before .before .before .if3 .taken), toZ-ofZ w16 (c .before .entry .result) (record { sfits = c .before .entry .ok }), c .before .entry .ensures)
+    rw (
+      c .goes .ensures,
+      ← e,
+      ne-eqb _ 0 (k .before .before .if1 .left),
+      k .if2 .left,
+      lt-ltb _ _ (c .before .before .before .if3 .taken),
+      toZ-ofZ w16 (c .before .entry .result) (record { sfits = c .before .entry .ok }),
+      c .before .entry .ensures,
+    )
 
 returns-3 : tie.Need-returns-3
 returns-3 c =

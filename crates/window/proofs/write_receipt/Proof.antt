@@ -1,6 +1,5 @@
 -- `write_receipt` meets its contract: number, place and count one after the other.
 use borrow.Author.Needs.{needs}
-use Rattle.window.specs.Stamp.{stampAs}
 use Rattle.window.proofs.Calling.{three-numbers}
 use Rattle.window.proofs.write_receipt.Statement.{statement}
 use Rattle.window.proofs.write_receipt.Tie as tie
@@ -10,13 +9,14 @@ write-receipt-spec =
     tie.close
     (tie.spec
     (λ c κs. search needs)
+    (λ c. search needs)
     (λ c κs. search needs)
     (λ c κs. search needs)
     (λ c. search needs)
     (λ c.
     let third = c .before .before in
     let second = third .before .before .before .before in
-    let first = second .before .before .before .before in
+    let first = second .before .before .before .before .before in
     let entry = first .before .before .before in
-    three-numbers (stampAs (entry .args .stamp)) (entry .args .receipt .now) (first .put-number .last .0) (second .put-number2 .last .0) (third .put-number3 .last .0)
-    (entry .pre) (first .put-number .ensures) (second .put-number2 .ensures) (third .put-number3 .ensures)))
+    three-numbers (entry .args .receipt) (entry .args .list .now) (first .put-number .last .0) (second .put-number2 .last .0) (third .put-number3 .last .0)
+    (entry .pre .0) (first .put-number .ensures) (second .put-number2 .ensures) (third .put-number3 .ensures)))
