@@ -1,6 +1,12 @@
 pub mod Booleans
+pub mod Bits
 pub mod Lists
+pub mod Parts
+pub mod Times
+pub mod Repeats
 pub mod Search
+pub mod Counting
 pub mod Options
 pub mod Runs
 pub mod Appending
+pub mod Sums

@@ -1,8 +1,9 @@
 -- Lists made from a function of the index, the lists that `map` makes, and lists made of parts.
-use mathlib.Core.Path.{_≡_, refl, ap, sym, _∙_}
+use mathlib.Core.Path.{_≡_, refl, ap, _∙_}
 use mathlib.Core.Logic.{⊎-elim}
 use mathlib.Core.List.{List, [], _∷_, _++_, map, List·Memᴰ, List·Memᴰ·head, List·Memᴰ·tail, List·Memᴰ·not-nil, List·Memᴰ·cases-cons}
 use Prim.Native.Nat.{ℕ, zero, suc, _+_, _-_, _≤_, _<_}
+use native.Mathlib.Decide.{ℕ-discrete as decEq}
 use native.Mathlib.Omega.{arith}
 use lib.ListN.{length, getD, take, drop, set, replicate}
 
@@ -27,6 +28,39 @@ module _ {A : Type 0} (g : ℕ → A) where
   getD-from k (suc n) zero d h = ap g (omega arith)
   getD-from k (suc n) (suc i) d h = getD-from (suc k) n i d (omega arith) ∙ ap g (omega arith)
 
+  -- its elements, by their index
+  pub mem-from : (k n i : ℕ) → k ≤ i → i < k + n → List·Memᴰ (g i) (from k n)
+  unfolding from
+  mem-from k zero i l h = absurd (omega arith)
+  mem-from k (suc n) i l h = elim (decEq i k) [
+    | yes e ↦ List·Memᴰ·head (ap g e)
+    | no e ↦ List·Memᴰ·tail (mem-from (suc k) n i (omega arith) (omega arith))
+  ]
+
+  pub from-mem : (k n : ℕ) (x : A) → List·Memᴰ x (from k n) → (i : ℕ) × (k ≤ i) × (i < k + n) × (x ≡ g i)
+  unfolding from
+  from-mem k zero x m = absurd (List·Memᴰ·not-nil m)
+  from-mem k (suc n) x m =
+      ⊎-elim (λ e. (k, omega arith, omega arith, e)) (λ w. let r = from-mem (suc k) n x w in (r .0, omega (arith, r .1), omega (arith, r .2), r .3)) (List·Memᴰ·cases-cons m)
+
+  -- one more at the end
+  pub from-snoc : (k n : ℕ) → from k (suc n) ≡ from k n ++ (g (k + n) ∷ [])
+  unfolding from
+  from-snoc k zero = let e : k + 0 ≡ k = omega arith in rw e
+  from-snoc k (suc n) = let e : k + suc n ≡ suc k + n = omega arith in rw (e, ← from-snoc (suc k) n)
+
+-- functions that agree
+pub from-same : {A : Type 0} (f g : ℕ → A) (k n : ℕ) → ((i : ℕ) → k ≤ i → i < k + n → f i ≡ g i) → from f k n ≡ from g k n
+unfolding from
+from-same f g k zero h = refl
+from-same f g k (suc n) h = rw (h k (omega arith) (omega arith), from-same f g (suc k) n (λ i x y. h i (omega arith) (omega arith)))
+
+-- an element by its index
+pub mem-getD : {A : Type 0} (l : List A) (i : ℕ) (d : A) → i < length l → List·Memᴰ (getD l i d) l
+mem-getD [] i d h = absurd (omega arith)
+mem-getD (x ∷ l) zero d h = List·Memᴰ·head refl
+mem-getD (x ∷ l) (suc i) d h = List·Memᴰ·tail (mem-getD l i d (omega arith))
+
 module _ {A B : Type 0} (f : A → B) where
   pub mem-map : (l : List A) (x : A) → List·Memᴰ x l → List·Memᴰ (f x) (map f l)
   mem-map [] x m = absurd (List·Memᴰ·not-nil m)
@@ -49,6 +83,22 @@ module _ {A : Type 0} where
   pub before-right : {x y : A} {l : List A} → Before x y l → List·Memᴰ y l
   before-right (here m) = List·Memᴰ·tail m
   before-right (later b) = List·Memᴰ·tail (before-right b)
+
+-- in a list made from a function of the index, by the indices
+module _ {A : Type 0} (g : ℕ → A) where
+  pub before-from : (k n i j : ℕ) → k ≤ i → i < j → j < k + n → Before (g i) (g j) (from g k n)
+  unfolding from
+  before-from k zero i j l h b = absurd (omega arith)
+  before-from k (suc n) i j l h b = elim (decEq i k) [
+    | yes e ↦ rw e (here (mem-from g (suc k) n j (omega arith) (omega arith)))
+    | no e ↦ later (before-from (suc k) n i j (omega arith) h (omega arith))
+  ]
+
+  pub from-before : (k n : ℕ) (x y : A) → Before x y (from g k n) → (i : ℕ) × (j : ℕ) × (k ≤ i) × (i < j) × (j < k + n) × (x ≡ g i) × (y ≡ g j)
+  unfolding from
+  from-before k (suc n) x y (here m) = let r = from-mem g (suc k) n y m in (k, r .0, omega arith, omega (arith, r .1), omega (arith, r .2), refl, r .3)
+  from-before k (suc n) x y (later b) =
+      let r = from-before (suc k) n x y b in (r .0, r .1, omega (arith, r .2), r .3, omega (arith, r .4), r .5, r .6)
 
 -- an element stored at the seam of two parts, and the rest of equal values
 module _ {A : Type 0} where

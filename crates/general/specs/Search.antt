@@ -46,6 +46,13 @@ module _ {A : Type 0} (test : A → Bool) where
   pub find-none : (l : List A) → find l ≡ none → (y : A) → List·Memᴰ y l → test y ≡ false
   find-none l e = rw e at (find-finds l)
 
+  pub find-nothing : (l : List A) → ((y : A) → List·Memᴰ y l → test y ≡ false) → find l ≡ none
+  find-nothing l h = go (find l) (find-finds l)
+    where
+      go : (o : Option A) → Finds l o → o ≡ none
+      go none w = refl
+      go (some y) w = absurd (true-not-false (w .1) (h y (w .0)))
+
   pub find-some : (l : List A) (y : A) → find l ≡ some y → List·Memᴰ y l × (test y ≡ true)
   find-some l y e = rw e at (find-finds l)
 
