@@ -1,12 +1,12 @@
 -- Codes of literals: a literal and its code say the same, and what equality, variables and openness are on codes.
 use mathlib.Core.Path.{_≡_, refl, ap, sym, _∙_}
-use mathlib.Core.Bool.{Bool, true, false, cond}
+use mathlib.Core.Bool.{Bool, true, false}
 use mathlib.Core.Logic.{_↔_}
-use Prim.Native.Nat.{ℕ, _+_, _*_, _/_, _%_, _<_, _≤_, min}
-use native.Mathlib.Decide.{ℕ-discrete, decLt}
+use Prim.Native.Nat.{ℕ, _+_, _*_, _/_, _%_, _<_, _≤_}
+use native.Mathlib.Decide.{ℕ-discrete}
 use native.Mathlib.Omega.{arith}
-use borrow.Author.Tests.{eq-eqb, ne-eqb, eqb-true, eqb-false, lt-ltb, le-ltb}
-use lib.Dec.{eqb, ltb}
+use borrow.Author.Tests.{eq-eqb, ne-eqb, eqb-true, eqb-false}
+use lib.Dec.{eqb}
 use Rattle.literal.specs.declared.Literal.{Literal}
 use Rattle.literal.specs.declared.Literal.the-variants.{Pos, Neg}
 use Rattle.literal.specs.Literal.{var, same, codeOf, literalAt}
@@ -73,9 +73,3 @@ code-var-bound l m h = omega (arith, var-code l)
 -- the codes of the constants are 0 and 1
 pub code-open : (c : ℕ) → (1 < c) ↔ (0 < var (literalAt c))
 code-open c = rw (var-at c) ((λ h. omega arith), λ h. omega arith)
-
-pub open-at : (c : ℕ) → ltb 0 (var (literalAt c)) ≡ ltb 1 c
-open-at c = elim (decLt 1 c) [
-  | yes h ↦ lt-ltb 0 (var (literalAt c)) (code-open c .0 h) ∙ sym (lt-ltb 1 c h)
-  | no h ↦ le-ltb 0 (var (literalAt c)) (omega (arith, var-at c)) ∙ sym (le-ltb 1 c (omega arith))
-]

@@ -4,7 +4,7 @@ use mathlib.Core.Bool.{true, false, not, _&&_}
 use mathlib.Core.Logic.{_⊎_, inl, inr, _≢_, ⊎-elim}
 use mathlib.Core.Option.{Option, none, some, Option·map, Option·none-ne-some, Option·some-injective as some-injective}
 use mathlib.Core.List.{List, [], _∷_, map, List·Memᴰ, List·Memᴰ·head, List·Memᴰ·tail, List·Memᴰ·not-nil, List·Memᴰ·cases-cons}
-use Prim.Native.Nat.{ℕ, suc, _<_, _≤_}
+use Prim.Native.Nat.{ℕ, suc, _+_, _<_, _≤_}
 use native.Mathlib.Omega.{arith}
 use lib.Dec.{eqb, leb, ltb}
 use lib.ListN.{length}
@@ -14,25 +14,19 @@ use Rattle.general.specs.Lists.{Before, here, later, before-left}
 use Rattle.general.specs.Options.{orElse-none, orElse-some, cond-some, map-some, map-none, bind-some}
 use Rattle.general.specs.Search.{find, any, find-some, any-true}
 use Rattle.literal.specs.declared.Literal.{Literal}
+use Rattle.literal.specs.declared.Literal.the-variants.{Pos, Neg}
 use Rattle.literal.specs.Literal.{TRUE, FALSE, var, opposite, isOpen}
 use Rattle.theory.specs.Formula.{Clause, Formula, Within}
-use Rattle.theory.specs.State.{State, value, standing, WellFormed}
+use Rattle.theory.specs.State.{State, initial, standing, WellFormed}
 use Rattle.theory.specs.declared.Step.{Step}
 use Rattle.theory.specs.declared.Step.the-variants.{DeadEnd, Becomes}
 use Rattle.theory.specs.Rules.{occurs, stands, noneTrue, differ, complementary, other, isNone, partner, pairIn, live, tie, rule1, rule2, rule3, rule4, rule5, rule6, rule7, rule8}
 use Rattle.theory.specs.declared.Asked.{Asked}
 use Rattle.theory.specs.Propagation.{firstClause, firstPair, ask, step}
-use Rattle.theory.proofs.Literals.{opposite-opposite, var-opposite}
-use Rattle.theory.proofs.States.{Fixed, Valid, value-opposite, fixed-opposite, value-fixed, value-low, well-based, base-true, base-false}
+use Rattle.theory.proofs.States.{Fixed, Valid, value-fixed, value-low, well-based, base-true, base-false}
+use Rattle.theory.proofs.Ties.{Ties, ties-higher, ties-turned}
 use Rattle.theory.proofs.Clauses.{standing-mem, occurs-mem, stands-mem}
 use Rattle.theory.proofs.Closed.{NoFalse, Quiet, open-of, not-true-of}
-
--- that x becomes t where exactly one of y and z is true
-pub record Ties (y z x t : Literal) : Type 0 where
-  -- a state in which they are opposites takes both sides of the step for the same
-  pub alike : (u : State) → value u z ≡ opposite (value u y) → value u x ≡ value u t
-  pub apart : var y ≢ var z
-  pub valid : (n : ℕ) (s : State) → Fixed s y → Fixed s z → var y ≤ n → var z ≤ n → Valid n s x t
 
 -- rules 2 to 6 in a clause as it stands
 pub data AsksOne (c : Clause) : Literal → Literal → Type 0 where
@@ -61,6 +55,25 @@ pub record Dies (f : Formula) (s : State) : Type 0 where
   pub clause : Clause
   pub member : List·Memᴰ clause f
   pub dead-end : Unmeetable (standing s clause)
+
+-- open literals -----------------------------------------------------------------------------------------------
+
+-- What a rule asks is asked of an open literal, whatever the state. A tie says which literal is the higher in the first state too.
+ties-open : {y z x t : Literal} → Ties y z x t → 0 < var x
+ties-open {y} {z} k = omega (arith, k .valid (var y + var z) initial (fixed y) (fixed z) (omega arith) (omega arith) .lower)
+  where
+    fixed : (l : Literal) → Fixed initial l
+    fixed (Pos p) = refl
+    fixed (Neg p) = refl
+
+pub asks-open : {f : Formula} {s : State} {x t : Literal} → Asks f s x t → 0 < var x
+asks-open (by-one c m (one-true a b o)) = o
+asks-open (by-one c m (only-one e o)) = o
+asks-open (by-one c m (stands-twice h o)) = o
+asks-open (by-one c m (opposites y a b i o d)) = o
+asks-open (by-one c m (only-two y z e oy oz k)) = ties-open k
+asks-open (by-two g h b (common y xg xh yg yh o d)) = o
+asks-open (by-two g h b (crossed y z yg yh zg zh oy oz k)) = ties-open k
 
 -- every step that is asked is valid ------------------------------------------------------------------------------
 
@@ -113,22 +126,14 @@ abbrev One : Clause → Step → Type 0
 One c DeadEnd = Unmeetable c
 One c (Becomes x t) = AsksOne c x t
 
-abbrev Two : Clause → Clause → Step → Type 0
+abbrev pub Two : Clause → Clause → Step → Type 0
 Two g h DeadEnd = ⊥
 Two g h (Becomes x t) = AsksTwo g h x t
 
 tied : (P : Step → Type 0) (y z : Literal) → var y ≢ var z → ((x t : Literal) → Ties y z x t → P (Becomes x t)) → P (tie y z)
 tied P y z d k = ⊎-elim
-    (λ (e : ltb (var y) (var z) ≡ true). rw e (k _ _ (record {
-      alike = λ u q. q ∙ sym (value-opposite u y);
-      apart = d;
-      valid = λ n s fy fz iy iz. record { fixed-x = fz; fixed-t = fixed-opposite s y fy; lower = omega (arith, var-opposite y, ltb-true (var y) (var z) e); inside = iz };
-    })))
-    (λ (e : ltb (var y) (var z) ≡ false). rw e (k _ _ (record {
-      alike = λ u q. sym (opposite-opposite (value u y)) ∙ ap opposite (sym q) ∙ sym (value-opposite u z);
-      apart = d;
-      valid = λ n s fy fz iy iz. record { fixed-x = fy; fixed-t = fixed-opposite s z fz; lower = omega (arith, var-opposite z, ltb-false (var y) (var z) e); inside = iy };
-    })))
+    (λ (e : ltb (var y) (var z) ≡ true). rw e (k _ _ (ties-higher y z (ltb-true (var y) (var z) e))))
+    (λ (e : ltb (var y) (var z) ≡ false). rw e (k _ _ (ties-turned (ties-higher z y (omega (arith, ltb-false (var y) (var z) e))))))
     (bool-cases (ltb (var y) (var z)))
 
 differs : (x y : Literal) → differ x y ≡ true → var x ≢ var y
@@ -197,7 +202,7 @@ module _ (g h : Clause) (f : NoFalse g) where
   live-open : (live g && live h) ≡ true → (x : Literal) → List·Memᴰ x g → 0 < var x
   live-open e = none-true-open g f (and-true (noneTrue g) _ (and-true (live g) (live h) e .0) .0)
 
-  rule7-two : (s : Step) → rule7 g h ≡ some s → Two g h s
+  pub rule7-two : (s : Step) → rule7 g h ≡ some s → Two g h s
   rule7-two s e =
       let w = cond-some _ _ s e in
       let m = map-some (λ x. Becomes x FALSE) _ s (w .1) in
@@ -208,7 +213,7 @@ module _ (g h : Clause) (f : NoFalse g) where
       rw (← m .2)
       (common (y .0) (x .0) (stands-mem h (m .0) (a .0)) (y .1) (stands-mem h (opposite (y .0)) (b .0)) (live-open (w .0) (m .0) (x .0)) (differs (m .0) (y .0) (b .1)))
 
-  rule8-two : (s : Step) → rule8 g h ≡ some s → Two g h s
+  pub rule8-two : (s : Step) → rule8 g h ≡ some s → Two g h s
   rule8-two s e =
       let w = cond-some _ _ s e in
       let b = bind-some (pairIn g h) (λ x. Option·map (tie x) (partner g h x)) s (w .1) in

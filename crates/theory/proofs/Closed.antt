@@ -1,25 +1,24 @@
 -- Where no rule fits: the three forms of a clause, and what rules 7 and 8 say of two live ones.
 use mathlib.Core.Path.{_≡_, refl, ap, sym, _∙_}
-use mathlib.Core.Bool.{Bool, true, false, not, _&&_, and-false}
-use mathlib.Core.Logic.{_⊎_, inl, inr, _≢_, ⊎-elim}
+use mathlib.Core.Bool.{true, false, not, _&&_, and-false}
+use mathlib.Core.Logic.{_⊎_, _≢_, ⊎-elim}
 use mathlib.Core.Option.{Option, none, some, Option·map, Option·some-ne-none}
-use mathlib.Core.List.{List, [], _∷_, map, List·Memᴰ, List·Memᴰ·head, List·Memᴰ·tail, List·Memᴰ·not-nil, List·Memᴰ·cases-cons}
-use Prim.Native.Nat.{ℕ, zero, suc, _+_, _<_, _≤_}
+use mathlib.Core.List.{[], _∷_, List·Memᴰ, List·Memᴰ·head, List·Memᴰ·tail}
+use Prim.Native.Nat.{_+_, _<_, _≤_}
 use native.Mathlib.Omega.{arith}
 use native.Mathlib.Decide.{ℕ-discrete, decLe}
-use lib.Dec.{eqb, leb, ltb}
+use lib.Dec.{leb}
 use lib.ListN.{length}
-use borrow.Author.Tests.{eqb-true, eqb-false, eq-eqb, ne-eqb, leb-false, le-leb, ltb-false, lt-ltb, not-false}
-use Rattle.general.specs.Booleans.{bit, bool-cases, true-not-false, and-intro, or-left}
+use borrow.Author.Tests.{eqb-true, eq-eqb, ne-eqb, leb-false, le-leb, ltb-false, lt-ltb, not-false}
+use Rattle.general.specs.Booleans.{bit, true-not-false, and-intro, or-left}
 use Rattle.general.specs.Options.{cond-none, map-none, bind-none}
-use Rattle.general.specs.Search.{find, any, find-none, find-some, any-intro}
+use Rattle.general.specs.Search.{any, find-none, find-some, any-intro}
 use Rattle.literal.specs.declared.Literal.{Literal}
 use Rattle.literal.specs.Literal.{TRUE, FALSE, var, opposite, same, isOpen}
 use Rattle.theory.specs.Formula.{Clause}
-use Rattle.theory.specs.declared.Step.{Step}
-use Rattle.theory.specs.Rules.{occurs, stands, noneTrue, differ, when, becomesFalse, complementary, other, isNone, restsOn, atRest, live, partner, pairIn, tie, rule1, rule2, rule3, rule4, rule5, rule6, rule7, rule8}
-use Rattle.theory.proofs.Literals.{opposite-opposite, var-opposite, opposite-ne, same-refl, literal-cases, of-variable, constant}
-use Rattle.theory.proofs.Clauses.{occurs-here, occurs-tail, occurs-other, mem-occurs, occurs-mem, mem-stands, stands-mem}
+use Rattle.theory.specs.Rules.{occurs, stands, noneTrue, differ, complementary, other, isNone, live, partner, pairIn, tie, rule1, rule2, rule3, rule4, rule5, rule6, rule7, rule8}
+use Rattle.theory.proofs.Literals.{of-variable, constant}
+use Rattle.theory.proofs.Clauses.{occurs-here, occurs-tail, mem-occurs, occurs-mem, mem-stands, stands-mem}
 
 -- a live clause that no rule fits: at least three open literals, of pairwise different variables
 pub record Alive (c : Clause) : Type 0 where
@@ -181,11 +180,11 @@ module _ {c : Clause} (a : Alive c) where
   pub alive-live : live c ≡ true
   alive-live = rw (eq-eqb (occurs TRUE c) 0 alive-none-true, alive-complementary)
 
--- two live clauses, the first before the second: rules 7 and 8 do not fit
-module _ {g h : Clause} (a : Alive g) (b : Alive h) where
-  both : (live g && live h) ≡ true
-  both = and-intro (alive-live a) (alive-live b)
+pub alive-both : {g h : Clause} → Alive g → Alive h → (live g && live h) ≡ true
+alive-both a b = and-intro (alive-live a) (alive-live b)
 
+-- two live clauses, the first before the second: rules 7 and 8 do not fit
+module _ {g h : Clause} (both : (live g && live h) ≡ true) where
   pub no-common : rule7 g h ≡ none → (x y : Literal) → List·Memᴰ x g → List·Memᴰ x h → List·Memᴰ y g → List·Memᴰ (opposite y) h → var x ≢ var y → ⊥
   no-common e x y xg xh yg yh d =
       true-not-false

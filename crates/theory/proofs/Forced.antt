@@ -1,10 +1,10 @@
 -- A state that no rule fits and that refines s takes both sides of every step asked at s for the same, and s is no dead end.
 -- Solutions are such states too, so this one fact says that propagation keeps solutions and that its end does not depend on the order of steps.
 use mathlib.Core.Path.{_≡_, refl, ap, sym, _∙_}
-use mathlib.Core.Logic.{_⊎_, inl, inr, _≢_, ⊎-elim}
+use mathlib.Core.Logic.{_≢_, ⊎-elim}
 use mathlib.Core.Option.{none}
-use mathlib.Core.List.{[], _∷_, List·Memᴰ, List·Memᴰ·cases-cons, List·Memᴰ·eq-of-singleton}
-use Prim.Native.Nat.{ℕ, suc, _≤_}
+use mathlib.Core.List.{[], _∷_, List·Memᴰ}
+use Prim.Native.Nat.{ℕ, suc}
 use native.Mathlib.Omega.{arith}
 use lib.ListN.{length}
 use Rattle.general.specs.Lists.{before-left, before-right}
@@ -12,85 +12,16 @@ use Rattle.literal.specs.declared.Literal.{Literal}
 use Rattle.literal.specs.Literal.{TRUE, FALSE, var, opposite}
 use Rattle.theory.specs.Formula.{Clause, Formula}
 use Rattle.theory.specs.State.{State, value, stand, standing}
-use Rattle.theory.specs.Rules.{occurs, rule7, rule8}
+use Rattle.theory.specs.Rules.{rule7, rule8}
 use Rattle.theory.proofs.Literals.{opposite-opposite, var-opposite, opposite-ne, literal-cases, relation}
 use Rattle.theory.proofs.States.{Based, base-true, base-false, Refines, value-opposite}
-use Rattle.theory.proofs.Clauses.{occurs-here, occurs-other, mem-occurs, stand-ind, mem-standing, standing-refines, occurs-image, occurs-images}
-use Rattle.theory.proofs.Closed.{Alive, Closed, met, resting, alive, quiet-closed, no-common, no-crossed, alive-none-true}
+use Rattle.theory.proofs.Clauses.{mem-occurs, stand-ind, mem-standing, standing-refines, occurs-image, occurs-images}
+use Rattle.theory.proofs.Closed.{Closed, quiet-closed, alive-both, no-common, no-crossed}
+use Rattle.theory.proofs.Forms.{closed-once, closed-met, closed-opposites, closed-differ, short-none, short-one, short-two}
 use Rattle.theory.proofs.Asks.{AsksOne, one-true, only-one, stands-twice, opposites, only-two, AsksTwo, common, crossed, Asks, by-one, by-two, Dies, Rests, standing-no-false}
-
--- closed clauses -------------------------------------------------------------------------------------------------
 
 TRUE-not-FALSE : TRUE ≢ FALSE
 TRUE-not-FALSE = opposite-ne FALSE
-
-closed-once : {d : Clause} → Closed d → (v : Literal) → occurs v d ≤ 1
-unfolding occurs
-closed-once met v = ⊎-elim (λ (e : TRUE ≡ v). rw (← e) (omega arith)) (λ (h : TRUE ≢ v). omega (arith, occurs-other v TRUE [] h)) (literal-cases TRUE v)
-closed-once (resting x o) v = ⊎-elim
-    (λ (e : x ≡ v). rw (← e) (omega (arith, occurs-here x (opposite x ∷ []), occurs-other x (opposite x) [] (opposite-ne x))))
-    (λ (h : x ≢ v). omega (arith, occurs-other v x (opposite x ∷ []) h, one (opposite x)))
-    (literal-cases x v)
-  where
-    one : (y : Literal) → occurs v (y ∷ []) ≤ 1
-    one y = ⊎-elim (λ (e : y ≡ v). rw e (omega (arith, occurs-here v []))) (λ (h : y ≢ v). omega (arith, occurs-other v y [] h)) (literal-cases y v)
-closed-once (alive a) v = a .once v
-
-in-pair : {x y : Literal} (z : Literal) → List·Memᴰ z (x ∷ y ∷ []) → (z ≡ x) ⊎ (z ≡ y)
-in-pair z m = ⊎-elim inl (λ k. inr (List·Memᴰ·eq-of-singleton k)) (List·Memᴰ·cases-cons m)
-
--- with a true literal nothing else stands
-closed-met : {d : Clause} → Closed d → List·Memᴰ TRUE d → (v : Literal) → List·Memᴰ v d → v ≡ TRUE
-closed-met met t v m = List·Memᴰ·eq-of-singleton m
-closed-met (resting x o) t v m = absurd (⊎-elim
-    (λ (e : TRUE ≡ x). omega (arith, ap var e))
-    (λ (e : TRUE ≡ opposite x). omega (arith, ap var e, var-opposite x))
-    (in-pair TRUE t))
-closed-met {d} (alive a) t v m = absurd (omega (arith, mem-occurs d TRUE t, alive-none-true a))
-
--- with a literal and its opposite nothing else stands
-closed-opposites : {d : Clause} → Closed d → (y v : Literal) → List·Memᴰ y d → List·Memᴰ (opposite y) d → List·Memᴰ v d → (v ≡ y) ⊎ (v ≡ opposite y)
-closed-opposites met y v my mo m = inl (List·Memᴰ·eq-of-singleton m ∙ sym (List·Memᴰ·eq-of-singleton my))
-closed-opposites (resting x o) y v my mo m = ⊎-elim
-    (λ (e : y ≡ x). ⊎-elim (λ q. inl (q ∙ sym e)) (λ q. inr (q ∙ ap opposite (sym e))) (in-pair v m))
-    (λ (e : y ≡ opposite x). ⊎-elim (λ q. inr (q ∙ sym (opposite-opposite x) ∙ ap opposite (sym e))) (λ q. inl (q ∙ sym e)) (in-pair v m))
-    (in-pair y my)
-closed-opposites {d} (alive a) y v my mo m = absurd (omega (arith, mem-occurs d (opposite y) mo, a .apart y my))
-
--- with literals of two variables a clause is live
-closed-differ : {d : Clause} → Closed d → (v k : Literal) → List·Memᴰ v d → List·Memᴰ k d → var v ≢ var k → Alive d
-closed-differ met v k mv mk h = absurd (h (ap var (List·Memᴰ·eq-of-singleton mv ∙ sym (List·Memᴰ·eq-of-singleton mk))))
-closed-differ (resting x o) v k mv mk h = absurd (h (of-x v mv ∙ sym (of-x k mk)))
-  where
-    of-x : (z : Literal) → List·Memᴰ z (x ∷ opposite x ∷ []) → var z ≡ var x
-    of-x z m = ⊎-elim (λ q. ap var q) (λ q. ap var q ∙ var-opposite x) (in-pair z m)
-closed-differ (alive a) v k mv mk h = a
-
--- short closed clauses, by their list
-module _ {d : Clause} (k : Closed d) where
-  short-none : d ≡ [] → ⊥
-  short-none e = go k (ap length e)
-    where
-      go : {d : Clause} → Closed d → length d ≡ 0 → ⊥
-      go met h = omega arith
-      go (resting x o) h = omega arith
-      go (alive a) h = omega (arith, a .three)
-
-  short-one : (v : Literal) → d ≡ v ∷ [] → v ≡ TRUE
-  short-one v e = go k e
-    where
-      go : {d : Clause} → Closed d → d ≡ v ∷ [] → v ≡ TRUE
-      go met q = cc
-      go (resting x o) q = absurd (let z : _≡_ {A = ℕ} 2 1 = ap length q in omega arith)
-      go (alive a) q = absurd (omega (arith, a .three, ap length q))
-
-  short-two : (v w : Literal) → d ≡ v ∷ w ∷ [] → w ≡ opposite v
-  short-two v w e = go k e
-    where
-      go : {d : Clause} → Closed d → d ≡ v ∷ w ∷ [] → w ≡ opposite v
-      go met q = absurd (let z : _≡_ {A = ℕ} 1 2 = ap length q in omega arith)
-      go (resting x o) q = let a : x ≡ v = cc in let b : opposite x ≡ w = cc in sym b ∙ ap opposite a
-      go (alive a) q = absurd (omega (arith, a .three, ap length q))
 
 -- what a closed state makes of a clause c as it stands in s -------------------------------------------------------
 
@@ -179,7 +110,8 @@ module _ {u : State} (base : Based u) where
         let vh = image h kh x xh v in
         let bg = image g kg y yg e in
         let bh : List·Memᴰ (opposite (value u y)) (standing u h) = rw (value-opposite u y) at (image h kh (opposite y) yh o) in
-        absurd (no-common (closed-differ kg (value u x) (value u y) vg bg q) (closed-differ kh (value u x) (opposite (value u y)) vh bh (λ p. q (p ∙ var-opposite (value u y))))
+        absurd (no-common
+        (alive-both (closed-differ kg (value u x) (value u y) vg bg q) (closed-differ kh (value u x) (opposite (value u y)) vh bh (λ p. q (p ∙ var-opposite (value u y)))))
         r (value u x) (value u y) vg vh bg bh q))
         w)
         (relation (value u x) (value u y)))
@@ -211,8 +143,8 @@ module _ {u : State} (base : Based u) where
         let bg = image g kg z zg q in
         let ah : List·Memᴰ (opposite (value u y)) (standing u h) = rw (value-opposite u y) at (image h kh (opposite y) yh o) in
         let bh : List·Memᴰ (opposite (value u z)) (standing u h) = rw (value-opposite u z) at (image h kh (opposite z) zh j) in
-        absurd (no-crossed (closed-differ kg (value u z) (value u y) bg ag i)
-        (closed-differ kh (opposite (value u z)) (opposite (value u y)) bh ah (λ p. i (sym (var-opposite (value u z)) ∙ p ∙ var-opposite (value u y))))
+        absurd (no-crossed (alive-both (closed-differ kg (value u z) (value u y) bg ag i)
+        (closed-differ kh (opposite (value u z)) (opposite (value u y)) bh ah (λ p. i (sym (var-opposite (value u z)) ∙ p ∙ var-opposite (value u y)))))
         r (value u z) (value u y) bg bh ag ah i))
         w)
         (relation (value u z) (value u y)))

@@ -1,54 +1,38 @@
 -- The live clauses where no rule fits, and the lowest variable that stands in one.
-use mathlib.Core.Path.{_≡_, refl, ap, sym, _∙_}
-use mathlib.Core.Bool.{Bool, true, false, not, _&&_, cond}
+use mathlib.Core.Path.{_≡_, refl, ap, _∙_}
+use mathlib.Core.Bool.{Bool, true, false, cond}
 use mathlib.Core.Logic.{_⊎_, inl, inr, ⊎-elim}
 use mathlib.Core.Option.{Option, none, some}
 use mathlib.Core.List.{List, [], _∷_, map, List·Memᴰ, List·Memᴰ·head, List·Memᴰ·tail, List·Memᴰ·not-nil, List·Memᴰ·cases-cons, List·Memᴰ·append-cases, List·Memᴰ·eq-of-singleton, Memᴰ·append-left, Memᴰ·append-right, Memᴰ·cast}
 use Prim.Native.Nat.{ℕ, _≤_, min}
 use native.Mathlib.Omega.{arith}
 use native.Mathlib.Decide.{decLe}
-use lib.Dec.{eqb}
 use lib.ListN.{length}
-use borrow.Author.Tests.{eqb-false, not-true}
 use Rattle.general.specs.Booleans.{true-not-false}
 use Rattle.general.specs.Lists.{mem-map, map-mem}
-use Rattle.general.specs.Search.{Finds, find-finds}
 use Rattle.literal.specs.declared.Literal.{Literal}
 use Rattle.literal.specs.Literal.{var, opposite}
 use Rattle.theory.specs.Formula.{Clause, Formula, Within}
 use Rattle.theory.specs.Order.{IsLeast}
 use Rattle.theory.specs.State.{State, standing, Open, WellFormed}
-use Rattle.theory.specs.Rules.{occurs, stands, differ, complementary, other, isNone, restsOn, noneTrue, live}
+use Rattle.theory.specs.Rules.{occurs, live}
 use Rattle.theory.specs.Search.{liveVariables, lower, lowest, branchVariable}
 use Rattle.theory.proofs.Literals.{var-opposite}
 use Rattle.theory.proofs.States.{fixed-pos}
-use Rattle.theory.proofs.Clauses.{mem-stands}
 use Rattle.theory.proofs.Closed.{Alive, Closed, met, resting, alive, alive-live}
 use Rattle.theory.proofs.Asks.{standing-fixed, standing-inside}
+use Rattle.theory.proofs.Idle.{idle-not-live}
 
 -- of the clauses that no rule fits, only the third form is live ----------------------------------------------------
 
 -- a literal and its opposite are at rest
 pub resting-live : (x : Literal) → live (x ∷ opposite x ∷ []) ≡ false
-resting-live x = rw (rests (complementary c) (find-finds (λ y. stands (opposite y) c) c)) (silent (noneTrue c))
-  where
-    c : Clause
-    c = x ∷ opposite x ∷ []
-
-    silent : (b : Bool) → (b && not (b && true)) ≡ false
-    silent true = refl
-    silent false = refl
-
-    of-x : (y : Literal) → List·Memᴰ y c → var y ≡ var x
-    of-x y m = ⊎-elim (ap var) (λ k. ap var (List·Memᴰ·eq-of-singleton k) ∙ var-opposite x) (List·Memᴰ·cases-cons m)
-
-    alone : (y : Literal) → List·Memᴰ y c → (o : Option Literal) → Finds (λ z. differ y z) c o → isNone o ≡ true
-    alone y m none h = refl
-    alone y m (some z) h = absurd (eqb-false (var y) (var z) (not-true (eqb (var y) (var z)) (h .1)) (of-x y m ∙ sym (of-x z (h .0))))
-
-    rests : (o : Option Literal) → Finds (λ y. stands (opposite y) c) c o → restsOn c o ≡ true
-    rests none h = absurd (true-not-false (mem-stands c (opposite x) (List·Memᴰ·tail (List·Memᴰ·head refl))) (h x (List·Memᴰ·head refl)))
-    rests (some y) h = alone y (h .0) (other c y) (find-finds (λ z. differ y z) c)
+resting-live x = idle-not-live (x ∷ opposite x ∷ []) (inr (record {
+  literal = x;
+  here = List·Memᴰ·head refl;
+  across = List·Memᴰ·tail (List·Memᴰ·head refl);
+  only = λ z m. ⊎-elim (ap var) (λ k. ap var (List·Memᴰ·eq-of-singleton k) ∙ var-opposite x) (List·Memᴰ·cases-cons m);
+}))
 
 pub live-alive : {c : Clause} → Closed c → live c ≡ true → Alive c
 unfolding occurs

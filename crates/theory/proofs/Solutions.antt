@@ -1,26 +1,27 @@
 -- Solutions as states that no rule fits; so propagation never gains or loses one.
 use mathlib.Core.Path.{_≡_, refl, ap, sym, _∙_}
 use mathlib.Core.Bool.{Bool, true, false, not, cond}
-use mathlib.Core.Logic.{_↔_, _⊎_, ⊎-elim}
-use mathlib.Core.Option.{Option, none, some, orElse}
-use mathlib.Core.List.{List, [], _∷_, map, List·Memᴰ, List·Memᴰ·head, List·Memᴰ·tail}
-use Prim.Native.Nat.{ℕ, zero, suc, _+_, _<_}
+use mathlib.Core.Logic.{_↔_}
+use mathlib.Core.List.{[], _∷_, List·Memᴰ}
+use Prim.Native.Nat.{ℕ, suc, _+_, _<_}
 use native.Mathlib.Omega.{arith}
 use native.Mathlib.Nat.{zero-add}
 use lib.ListN.{replicate}
 use Rattle.general.specs.Booleans.{bit}
-use Rattle.general.specs.Lists.{map-mem}
+use Rattle.general.specs.Lists.{before-left}
 use Rattle.literal.specs.declared.Literal.{Literal}
 use Rattle.literal.specs.declared.Literal.the-variants.{Pos, Neg}
 use Rattle.literal.specs.Literal.{TRUE, FALSE, opposite}
 use Rattle.theory.specs.Formula.{Clause, Formula, Assignment, holds, trueCount, Satisfies, Within}
 use Rattle.theory.specs.State.{State, value, stand, standing, opens, Agrees, WellFormed}
-use Rattle.theory.specs.declared.Step.{Step}
-use Rattle.theory.specs.Rules.{occurs, rule1, rule2, rule3, rule4, rule5, rule6, rule7, rule8}
-use Rattle.theory.specs.Propagation.{firstClause, firstPair, ask, step, Settled, dead, rest, propagate}
+use Rattle.theory.specs.Rules.{occurs}
+use Rattle.theory.specs.Propagation.{Settled, dead, rest, propagate}
 use Rattle.general.specs.Search.{find}
-use Rattle.theory.proofs.States.{Based, Refines, refines-trans}
-use Rattle.theory.proofs.Propagation.{Stable, Ended, Ends, propagate-ends}
+use Rattle.theory.proofs.States.{Refines, refines-trans}
+use Rattle.theory.proofs.Closed.{met}
+use Rattle.theory.proofs.Forms.{closed-quiet}
+use Rattle.theory.proofs.Propagation.{Stable, Ends, propagate-ends}
+use Rattle.theory.proofs.AtRest.{rests-step}
 
 -- a solution of f that agrees with s; variable 0 is the constant
 pub record Sol (f : Formula) (s : State) (a : Assignment) : Type 0 where
@@ -66,46 +67,20 @@ standing-decided a (l ∷ c) = rw (value-decided a l, standing-decided a c) (go 
     go true = ap (λ (k : ℕ). replicate k TRUE) one-more
     go false = ap (λ (k : ℕ). replicate k TRUE) (sym (zero-add (trueCount a c)))
 
-first-clause-none : (rule : Clause → Option Step) (k : ℕ) (g : List Clause) → ((c : Clause) → List·Memᴰ c g → rule c ≡ none) → firstClause rule k g ≡ none
-unfolding firstClause orElse
-first-clause-none rule k [] h = refl
-first-clause-none rule k (c ∷ g) h = rw (h c (List·Memᴰ·head refl)) (first-clause-none rule (suc k) g (λ d m. h d (List·Memᴰ·tail m)))
-
-first-pair-none : (rule : Clause → Clause → Option Step) (k : ℕ) (g : List Clause) → ((c d : Clause) → List·Memᴰ c g → rule c d ≡ none) → firstPair rule k g ≡ none
-unfolding firstPair orElse
-first-pair-none rule k [] h = refl
-first-pair-none rule k (c ∷ g) h =
-    rw (first-clause-none (rule c) (suc k) g (λ d m. h c d (List·Memᴰ·head refl)))
-    (first-pair-none rule (suc k) g (λ d e m. h d e (List·Memᴰ·tail m)))
-
--- where every clause stands as one TRUE no rule fits
-pub all-met-rests : (g : List Clause) → ((c : Clause) → List·Memᴰ c g → c ≡ TRUE ∷ []) → ask g ≡ none
-unfolding ask orElse occurs find
-all-met-rests g h =
-    rw (
-      one rule1 refl,
-      one rule2 refl,
-      one rule3 refl,
-      one rule4 refl,
-      one rule5 refl,
-      one rule6 refl,
-      two rule7 (λ d. refl),
-      two rule8 (λ d. refl),
-    )
-  where
-    one : (rule : Clause → Option Step) → rule (TRUE ∷ []) ≡ none → firstClause rule 1 g ≡ none
-    one rule e = first-clause-none rule 1 g (λ c m. rw (h c m) e)
-
-    two : (rule : Clause → Clause → Option Step) → ((d : Clause) → rule (TRUE ∷ []) d ≡ none) → firstPair rule 1 g ≡ none
-    two rule e = first-pair-none rule 1 g (λ c d m. rw (h c m) (e d))
-
+-- every clause stands as one TRUE, so no rule fits
 pub satisfied-stable : (f : Formula) (a : Assignment) → a 0 ≡ true → Satisfies a f → Stable f (decidedBy a)
+unfolding occurs find
 satisfied-stable f a e h = record {
   based = record { base = rw e };
-  rests = all-met-rests (map (standing (decidedBy a)) f) (λ c m.
-      let w = map-mem (standing (decidedBy a)) f c m in
-      w .2 ∙ standing-decided a (w .0) ∙ ap (λ (k : ℕ). replicate k TRUE) (h (w .0) (w .1)));
+  rests = rests-step (record {
+    quiet = λ c m. rw (one c m) (closed-quiet met);
+    quiet7 = λ g d b. rw (one g (before-left b));
+    quiet8 = λ g d b. rw (one g (before-left b));
+  });
 }
+  where
+    one : (c : Clause) → List·Memᴰ c f → standing (decidedBy a) c ≡ TRUE ∷ []
+    one c m = standing-decided a c ∙ ap (λ (k : ℕ). replicate k TRUE) (h c m)
 
 -- "Simplifying never gains or loses a choice" -----------------------------------------------------------------------
 

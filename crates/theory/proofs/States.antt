@@ -9,7 +9,7 @@ use Rattle.general.specs.Booleans.{bit}
 use Rattle.literal.specs.declared.Literal.{Literal}
 use Rattle.literal.specs.declared.Literal.the-variants.{Pos, Neg}
 use Rattle.literal.specs.Literal.{TRUE, FALSE, var, opposite, same}
-use Rattle.theory.specs.State.{State, initial, value, replace, assign, opens, Open, WellFormed}
+use Rattle.theory.specs.State.{State, value, replace, assign, opens, Open, WellFormed}
 use Rattle.theory.proofs.Literals.{opposite-opposite, var-opposite, opposite-ne, same-true, same-refl, same-ne, literal-cases, of-variable, relation}
 
 -- replacing ------------------------------------------------------------------------------------------------------
@@ -127,9 +127,6 @@ refines-refl w = record { at = w .fixed }
 pub refines-trans : {s u v : State} → Refines s u → Refines u v → Refines s v
 refines-trans {s} {u} {v} a b = record { at = λ p. sym (refines-value b (s p)) ∙ ap (value v) (a .at p) ∙ b .at p }
 
-pub refines-initial : (u : State) → Refines initial u
-refines-initial u = record { at = λ p. refl }
-
 pub refines-assign : {n : ℕ} {s : State} (x t : Literal) → WellFormed n s → Refines s (assign x t s)
 refines-assign {s = s} x t w = record { at = λ p. value-assign s x t (s p) ∙ ap (replace x t) (w .fixed p) }
 
@@ -141,9 +138,6 @@ module _ {n : ℕ} {s u : State} (x t : Literal) (w : WellFormed n s) (f : Fixed
       kept : (l : Literal) → value u (replace x t l) ≡ value u l
       kept = replace-ind (λ l m. value u m ≡ value u l) x t (sym e)
           (value-opposite u t ∙ ap opposite (sym e) ∙ sym (value-opposite u x)) (λ l h. refl)
-
-  pub refines-step : Refines (assign x t s) u → value u x ≡ value u t
-  refines-step r = sym (refines-value r x) ∙ ap (value u) (value-assign s x t x ∙ ap (replace x t) f ∙ replace-same x t)
 
 -- states that refine each other are equal: each variable stands for the lowest of its class
 module _ {n m : ℕ} {s u : State} (w : WellFormed n s) (z : WellFormed m u) (a : Refines s u) (b : Refines u s) where
