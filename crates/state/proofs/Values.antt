@@ -1,5 +1,5 @@
 -- The array of a state and the substitution that it is: elements as values, and codes in range.
-use mathlib.Core.Path.{_≡_, refl, ap, sym, _∙_, fun-ext}
+use mathlib.Core.Path.{_≡_, ap, sym, _∙_, fun-ext}
 use mathlib.Core.List.{List}
 use Prim.Native.Nat.{ℕ, _*_, _<_, _≤_}
 use native.Mathlib.Decide.{decLe}
@@ -10,7 +10,7 @@ use Rattle.literal.specs.declared.Literal.{Literal}
 use Rattle.literal.specs.declared.Literal.the-variants.{Pos, Neg}
 use Rattle.literal.specs.Literal.{var, codeOf, literalAt, maxVariables, codes}
 use Rattle.literal.proofs.Codes.{literalAt-codeOf, var-at, code-var-bound}
-use Rattle.theory.specs.State.{initial, value, replace, assign, WellFormed}
+use Rattle.theory.specs.State.{initial, value, replace, assign}
 use Rattle.theory.proofs.Literals.{var-opposite}
 use Rattle.theory.proofs.States.{replace-ind, replace-other}
 use Rattle.state.specs.State.{stateOf, InRange}
@@ -59,11 +59,3 @@ value-var {v} r l h = go l h
     go : (l : Literal) → var l ≤ maxVariables → var (value (stateOf v) l) ≤ maxVariables
     go (Pos p) b = at p b
     go (Neg p) b = rw (var-opposite (stateOf v p)) (at p b)
-
--- in a well-formed state, where a variable stands for none above itself, all codes are in range
-pub well-formed-range : {n : ℕ} {v : List ℕ} → WellFormed n (stateOf v) → InRange v
-well-formed-range {n} {v} w = record {
-  below = λ p i.
-      let h : var (literalAt (getD v p 0)) ≤ p = rw (stateOf-inside v p i) at (w .low p) in
-      omega (arith, var-at (getD v p 0));
-}

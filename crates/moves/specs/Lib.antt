@@ -1,0 +1,4 @@
+pub mod Sound
+pub mod Moving
+pub mod Deciding
+pub mod Stepping

@@ -1,0 +1,6 @@
+pub mod Parts
+pub mod Values
+pub mod Standing
+pub mod Rings
+pub mod Turned
+pub mod Loads
