@@ -1,0 +1,79 @@
+-- The wide clauses that hold the class of an open root, put one after another.
+use mathlib.Core.Path.{_≡_}
+use mathlib.Core.Bool.{Bool, true, false, _&&_}
+use mathlib.Core.List.{List}
+use Prim.Native.Nat.{ℕ, _+_, _*_, _≤_, _<_}
+use lib.Dec.{ltb}
+use lib.ListN.{getD, length}
+use Rattle.general.specs.Times.{times}
+use Rattle.literal.specs.Literal.{maxVariables, maxLiterals}
+use Rattle.theory.specs.State.{standing}
+use Rattle.theory.proofs.Counts.{mentions, Wide}
+use Rattle.occurrences.specs.Index.{Indexed, clauseCount, clauseOf, occurrences, width}
+use Rattle.tally.specs.Tally.{tallyOf, stateIn, valueIn, countIn}
+use Rattle.tally.specs.Ring.{Classes}
+use Rattle.tally.specs.Counts.{Exact, oneTrue}
+use Rattle.notes.specs.Notes.{notesOf, Gathered, Whole}
+
+-- three or more open and none true, by a count
+abbrev pub isWide : ℕ → Bool
+isWide k = ltb 2 k && ltb k oneTrue
+
+-- index and state are as between steps, and r is an open root
+pub record AtRoot (ix st : List ℕ) (r : ℕ) : Type 0 where
+  pub index : Indexed ix
+  pub exact : Exact ix (tallyOf st .values) (tallyOf st .counts)
+  pub linked : length (tallyOf st .links) ≡ 257
+  pub classes : Classes (tallyOf st .values) (tallyOf st .links)
+  pub opened : 0 < r
+  pub inside : r ≤ maxVariables
+  pub root : valueIn st r ≡ 2 * r
+
+-- only the gathered clauses differ
+pub record Beside (wk wk′ : List ℕ) : Type 0 where
+  pub whole : Whole wk′
+  pub todo : notesOf wk′ .todo ≡ notesOf wk .todo
+  pub todoEnd : notesOf wk′ .todoEnd ≡ notesOf wk .todoEnd
+  pub roots : notesOf wk′ .roots ≡ notesOf wk .roots
+  pub rootsEnd : notesOf wk′ .rootsEnd ≡ notesOf wk .rootsEnd
+
+-- the n that were gathered hold every wide clause that mentions r
+pub record Gathering (ix st wk : List ℕ) (r : ℕ) (wk′ : List ℕ) (n : ℕ) : Type 0 where
+  pub few : n ≤ maxLiterals
+  pub beside : Beside wk wk′
+  pub inside : (i : ℕ) → i < n → getD (notesOf wk′ .gathered) i 0 < clauseCount ix
+  pub all : (g : ℕ) → g < clauseCount ix → Wide (standing (stateIn st) (clauseOf ix g)) → 0 < mentions r (standing (stateIn st) (clauseOf ix g)) →
+      Gathered (notesOf wk′) n g
+
+-- clause g is wide, by its count
+abbrev pub WideIn : List ℕ → List ℕ → ℕ → Type 0
+WideIn ix st g = (g < clauseCount ix) × (isWide (countIn st g) ≡ true)
+
+-- variable p stands in clause g
+abbrev pub Written : List ℕ → ℕ → ℕ → Type 0
+Written ix p g = (k : ℕ) × (k < 2) × (0 < times (2 * g + k) (occurrences ix p))
+
+-- one variable: there is room for all its occurrences
+pub record Collecting (ix wk : List ℕ) (p start : ℕ) : Type 0 where
+  pub index : Indexed ix
+  pub inside : p ≤ maxVariables
+  pub whole : Whole wk
+  pub room : start + width ix p ≤ maxLiterals
+
+pub record Collected (ix st wk : List ℕ) (p start : ℕ) (wk′ : List ℕ) (end : ℕ) : Type 0 where
+  pub grew : start ≤ end
+  pub paid : end ≤ start + width ix p
+  pub beside : Beside wk wk′
+  pub kept : (i : ℕ) → i < start → getD (notesOf wk′ .gathered) i 0 ≡ getD (notesOf wk .gathered) i 0
+  pub inside : (i : ℕ) → start ≤ i → i < end → getD (notesOf wk′ .gathered) i 0 < clauseCount ix
+  pub all : (g : ℕ) → WideIn ix st g → Written ix p g → Gathered (notesOf wk′) end g
+
+-- some wide clause holds variable p
+abbrev pub Stands : (ix st : List ℕ) → ℕ → Bool → Type 0
+Stands ix st p true = (g : ℕ) × WideIn ix st g × Written ix p g
+Stands ix st p false = (g : ℕ) → WideIn ix st g → Written ix p g → ⊥
+
+-- some wide clause mentions root r
+abbrev pub StandsLive : (ix st : List ℕ) → ℕ → Bool → Type 0
+StandsLive ix st r true = (g : ℕ) × (g < clauseCount ix) × Wide (standing (stateIn st) (clauseOf ix g)) × (0 < mentions r (standing (stateIn st) (clauseOf ix g)))
+StandsLive ix st r false = (g : ℕ) → g < clauseCount ix → Wide (standing (stateIn st) (clauseOf ix g)) → mentions r (standing (stateIn st) (clauseOf ix g)) ≡ 0

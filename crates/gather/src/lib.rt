@@ -1,0 +1,91 @@
+// The wide clauses, with no true literal and three or more open ones, that hold the class of an open root.
+ghost use mathlib.Core.Path.{_≡_};
+ghost use Prim.Native.Nat.{_≤_};
+ghost use Rattle.general.specs.Booleans.{bit};
+ghost use Rattle.literal.specs.Literal.{maxVariables};
+ghost use Rattle.occurrences.specs.Index.{Indexed};
+ghost use Rattle.notes.specs.Notes.{Whole};
+ghost use Rattle.gather.specs.Gathering.{isWide, AtRoot, Gathering, Collecting, Collected, Stands, StandsLive};
+use notes::Notes;
+use occurrences::Index;
+use tally::Tally;
+
+// 1 where a clause is wide, by its count.
+pub fn wide(count: u16) -> usize
+    ensures { λ r. ⌜ r ≡ bit (isWide count) ⌝ }
+{
+    if 2 < count {
+        if count < tally::ONE_TRUE {
+            return 1;
+        }
+    }
+    0
+}
+
+// Gathers the wide clauses that hold variable p from place `start` on, and says where they end. A clause that is not wide is overwritten.
+fn gather_variable(index: &Index, state: &Tally, work: &mut Notes, p: usize, start: usize) -> usize
+    requires { ⌜ Collecting (now index) (now work) p start ⌝ }
+    ensures { λ r. ⌜ Collected (now (index .entry)) (now (state .entry)) (now (work .entry)) p start (now (work .exit)) r ⌝ }
+{
+    let mut end = start;
+    let first = occurrences::first_of(index, p);
+    let last = occurrences::first_of(index, p + 1);
+    for j in first..last {
+        let g = occurrences::occurrence_at(index, j) / 2;
+        notes::put_gathered(work, end, g);
+        end += wide(tally::count_of(state, g as usize));
+    }
+    end
+}
+
+// Gathers the wide clauses that hold the class of root r, the variables that were tied last first, and says how many there are.
+pub fn gather(index: &Index, state: &Tally, work: &mut Notes, r: u16) -> usize
+    requires { ⌜ AtRoot (now index) (now state) r ⌝ }
+    requires { ⌜ Whole (now work) ⌝ }
+    ensures { λ n. ⌜ Gathering (now (index .entry)) (now (state .entry)) (now (work .entry)) r (now (work .exit)) n ⌝ }
+{
+    let root = r as usize;
+    let mut end = 0;
+    let mut p = root;
+    loop {
+        p = tally::link_of(state, p) as usize;
+        end = gather_variable(index, state, work, p, end);
+        if p == root {
+            return end;
+        }
+    }
+}
+
+// Whether variable p stands in a wide clause.
+fn stands_wide(index: &Index, state: &Tally, p: usize) -> bool
+    requires { ⌜ Indexed (now index) ⌝ }
+    requires { ⌜ p ≤ maxVariables ⌝ }
+    ensures { λ b. ⌜ Stands (now (index .entry)) (now (state .entry)) p b ⌝ }
+{
+    let first = occurrences::first_of(index, p);
+    let last = occurrences::first_of(index, p + 1);
+    for j in first..last {
+        let g = occurrences::occurrence_at(index, j) / 2;
+        if wide(tally::count_of(state, g as usize)) == 1 {
+            return true;
+        }
+    }
+    false
+}
+
+// Whether the class of root r stands in a wide clause.
+pub fn stands_live(index: &Index, state: &Tally, r: u16) -> bool
+    requires { ⌜ AtRoot (now index) (now state) r ⌝ }
+    ensures { λ b. ⌜ StandsLive (now (index .entry)) (now (state .entry)) r b ⌝ }
+{
+    let mut p = r as usize;
+    loop {
+        p = tally::link_of(state, p) as usize;
+        if stands_wide(index, state, p) {
+            return true;
+        }
+        if p == r as usize {
+            return false;
+        }
+    }
+}

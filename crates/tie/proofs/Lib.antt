@@ -1,0 +1,10 @@
+pub mod Codes
+pub mod Swaps
+pub mod Turns
+pub mod Joins
+pub mod Listings
+pub mod Doubles
+pub mod Signing
+pub mod Undoubling
+pub mod Along
+pub mod Tyings

@@ -1,0 +1,4 @@
+pub mod Turning
+pub mod Listing
+pub mod Doubling
+pub mod Tying
