@@ -1,0 +1,9 @@
+pub mod Along
+pub mod Shorts
+pub mod Spent
+pub mod Reading
+pub mod Two
+pub mod Turns
+pub mod Loops
+pub mod Settles
+pub mod Begins

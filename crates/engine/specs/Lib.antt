@@ -1,0 +1,4 @@
+pub mod Short
+pub mod Ready
+pub mod Reading
+pub mod Turning

@@ -1,0 +1,5 @@
+pub mod Opening
+pub mod Counting
+pub mod Undoubling
+pub mod Signs
+pub mod Starting

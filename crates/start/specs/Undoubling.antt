@@ -1,0 +1,30 @@
+-- Rules 4 and 5 for each variable in turn.
+use mathlib.Core.Bool.{Bool, true, false}
+use mathlib.Core.List.{List}
+use Prim.Native.Nat.{ℕ, _+_, _≤_}
+use Rattle.literal.specs.Literal.{maxVariables}
+use Rattle.theory.specs.State.{WellFormed}
+use Rattle.theory.proofs.DistinctBut.{DistinctBut}
+use Rattle.theory.proofs.Falls.{Falls}
+use Rattle.occurrences.specs.Index.{formulaOf}
+use Rattle.tally.specs.Tally.{stateIn}
+use Rattle.notes.specs.Notes.{Whole}
+use Rattle.moves.specs.Sound.{Sound}
+use Rattle.moves.specs.Moving.{Went}
+use Rattle.moves.specs.Stepping.{Died}
+
+-- what rules 4 and 5 are tried in
+pub record Undoubling (ix st wk : List ℕ) : Type 0 where
+  pub sound : Sound ix st wk
+  pub well : WellFormed maxVariables (stateIn st)
+
+-- the variables below n stand at most once in each wide clause
+pub record UndoubledBelow (ix st wk st′ wk′ : List ℕ) (n : ℕ) : Type 0 where
+  pub path : Falls (formulaOf ix) (stateIn st) (stateIn st′)
+  pub went : Went ix st wk st′ wk′
+  pub distinct : DistinctBut (λ p. n ≤ p) (formulaOf ix) (stateIn st′)
+
+-- after a dead end (true) nothing is known of the state and the lists
+abbrev pub UndoubledOf : (ix st wk st′ wk′ : List ℕ) → Bool → Type 0
+UndoubledOf ix st wk st′ wk′ true = Died (formulaOf ix) (stateIn st) × Whole wk′
+UndoubledOf ix st wk st′ wk′ false = UndoubledBelow ix st wk st′ wk′ (maxVariables + 1)
