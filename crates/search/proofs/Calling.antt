@@ -21,14 +21,9 @@ use Rattle.theory.specs.Search.{treeFrom, treeOf, search, planOf, trailOf}
 use Rattle.theory.specs.Calls.{over, searchedCall, searchRefused, searchCall}
 use Rattle.theory.specs.Table.{check, Accepted}
 use Rattle.theory.proofs.Paths.{PathWithin, found-path}
-use Rattle.theory.proofs.Propagation.{initial-well}
-use Rattle.theory.proofs.States.{opens-bound}
-use Rattle.theory.proofs.Tables.{accepted-sizes, accepted-within}
-use Rattle.state.specs.State.{stateOf, InRange}
-use Rattle.clause.proofs.Accepted.{accepted-readable}
 use Rattle.search.specs.declared.Walk.{Walk}
 use Rattle.search.specs.Call.{called}
-use Rattle.search.specs.Walk.{Walkable, Walked, walked, planAfter, trailAfter, walkOf}
+use Rattle.search.specs.Walk.{Walked, walked, planAfter, trailAfter, walkOf}
 
 -- lists that were cleared ------------------------------------------------------------------------------------------
 
@@ -80,15 +75,3 @@ module _ (n : ℕ) (t : List ℤ) (b : ℕ) (plan : List ℕ) (trail : List ℤ)
               ap (λ (u : Walked). u .trail) is ∙ trail-cleared n (r .found) (found-path n t accepted b) trail,
             )
             call-accepted
-
-pub start-walkable : (n : ℕ) (t : List ℤ) → Accepted n t → (v : List ℕ) → stateOf v ≡ initial → InRange v → (plan : List ℕ) (trail : List ℤ) →
-    n ≤ length plan → n ≤ length trail → Walkable t n v 0 plan trail
-start-walkable n t accepted v e r plan trail h k = record {
-  ready = record { readable = accepted-readable n t accepted; range = r };
-  within = accepted-within n t accepted;
-  well = rw e (initial-well n);
-  small = accepted-sizes n t accepted .variables;
-  plan-room = h;
-  trail-room = k;
-  deep = omega (arith, opens-bound (stateOf v) n);
-}

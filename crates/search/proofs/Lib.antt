@@ -1,6 +1,8 @@
-pub mod Lowest
 pub mod Outcomes
-pub mod Sides
 pub mod Walking
+pub mod Branches
+pub mod Beginning
+pub mod Sides
+pub mod Starting
 pub mod Calling
 pub mod Promises

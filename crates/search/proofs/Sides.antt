@@ -1,88 +1,181 @@
--- What a walk may ask of the two sides of a split, and that the branch variable of a state where settling rests is open.
-use mathlib.Core.Path.{_≡_, refl, sym, _∙_}
+-- What a walk may ask of the state that propagation leaves and of the two sides of a split.
+use mathlib.Core.Path.{_≡_, refl, ap, sym, _∙_}
+use mathlib.Core.Bool.{Bool, true, false}
 use mathlib.Core.List.{List}
-use mathlib.Core.Bool.{true, false}
-use mathlib.Core.Option.{some}
-use Prim.Native.Nat.{ℕ, _+_, _<_, _≤_}
+use mathlib.Core.Option.{none, some}
+use Prim.Native.Nat.{ℕ, suc, _+_, _*_, _/_, _≤_, _<_}
 use native.Mathlib.Omega.{arith}
 use lib.IntN.{ℤ}
+use lib.ListN.{length}
 use mir.Syntax.{w32}
 use mir.Val.{Fits}
-use lib.ListN.{length}
 use Rattle.literal.specs.declared.Literal.{Literal}
-use Rattle.literal.specs.declared.Literal.the-variants.{Pos}
-use Rattle.literal.specs.Literal.{FALSE, var}
-use Rattle.theory.specs.Formula.{Formula, clauses, Within}
+use Rattle.literal.specs.declared.Literal.the-variants.{Pos, Neg}
+use Rattle.literal.specs.Literal.{TRUE, FALSE, var, codeOf, literalAt, codes}
+use Rattle.literal.proofs.Codes.{literalAt-codeOf, codeOf-literalAt}
+use Rattle.theory.specs.Formula.{Formula}
 use Rattle.theory.specs.Order.{Least}
-use Rattle.theory.specs.Propagation.{Settled, dead, rest, settle}
+use Rattle.theory.specs.Propagation.{dead}
 use Rattle.theory.specs.Search.{branchVariable}
 use Rattle.theory.specs.State.{State, assign, opens, Open, WellFormed}
+use Rattle.theory.proofs.Asks.{Dies}
+use Rattle.theory.proofs.AtRest.{settled-dead}
+use Rattle.theory.proofs.Guard.{Guard, guard-steps, guard-split}
 use Rattle.theory.proofs.Live.{InLive, live-open, branch-least}
-use Rattle.theory.proofs.Propagation.{Ended}
-use Rattle.theory.proofs.Splits.{rests-closed, settle-ends}
-use Rattle.theory.proofs.States.{Side, side}
-use Rattle.state.specs.State.{stateOf, InRange}
-use Rattle.propagate.specs.Code.{settled}
-use Rattle.propagate.specs.declared.Settled as the-settled
-use Rattle.search.specs.Walk.{Walkable, Passable}
+use Rattle.theory.proofs.Propagation.{none-left, steps-well, steps-close}
+use Rattle.theory.proofs.States.{side}
+use Rattle.theory.proofs.Stepped.{assign-turned}
+use Rattle.state.proofs.Values.{stateOf-inside}
+use Rattle.occurrences.specs.Index.{formulaOf}
+use Rattle.tally.specs.Tally.{tallyOf, stateIn, valueIn}
+use Rattle.notes.specs.Notes.{Whole}
+use Rattle.moves.specs.Sound.{Sound}
+use Rattle.moves.specs.Stepping.{Died}
+use Rattle.moves.proofs.Dying.{dies-in}
+use Rattle.search.specs.declared.Level.{Level}
+use Rattle.engine.specs.Ready.{Rested}
+use Rattle.engine.proofs.Settles.{died-settles}
+use Rattle.search.specs.Side.{Tallied, Calm, Siding, Begun}
+use Rattle.search.specs.Branch.{Branchable}
+use Rattle.search.specs.Walk.{Lasting, Beginning, Begins, Walkable, Splittable, Passable, under, walked, treeWalk, walkFrom}
+use Rattle.search.proofs.Branches.{calm-closed, wider}
+use Rattle.search.proofs.Walking.{at-dead-end, dead-walk}
 
--- what code's answer says of where settling ends
-module _ (r : the-settled.Settled) (o : Settled) (e : settled r ≡ o) where
-  pub settled-dead : r .dead ≡ true → o ≡ dead
-  settled-dead h = sym e ∙ rw h
+-- propagation -------------------------------------------------------------------------------------------------------
 
-  pub settled-rest : r .dead ≡ false → o ≡ rest (stateOf (r .state .values))
-  settled-rest h = sym e ∙ rw h
+pub sound-tallied : {ix st wk : List ℕ} → Sound ix st wk → Tallied ix st
+sound-tallied s = record {
+  index = s .index;
+  exact = s .exact;
+  linked = s .linked;
+  classes = s .classes;
+  room = omega (arith, s .todo-room);
+  roots = omega (arith, s .roots-room);
+}
 
-module _ {n : ℕ} {f : Formula} (within : Within n f) {s : State} (w : WellFormed n s) {u : State} (e : settle n f s ≡ rest u) where
-  pub rested : Ended n f s u
-  rested = rw e at (settle-ends within s w)
+pub rested-calm : {ix st st′ wk′ : List ℕ} → Rested ix st st′ wk′ → Calm ix st′
+rested-calm r = record { tallied = sound-tallied (r .sound); counted = r .counted; distinct = r .distinct; pairs = r .pairs }
 
-  pub branch-open : (p : ℕ) → branchVariable f u ≡ some p → Open n u p
-  branch-open p q =
-      let b : Least _≤_ (InLive f u) p = rw q at (branch-least f u (rests-closed f u (rested .rests))) in
-      live-open (rested .well) within (b .member)
+module _ {ix st wk : List ℕ} {l : Level} {plan : List ℕ} {trail : List ℤ} (k : Lasting ix l plan trail) (b : Beginning ix st wk l) where
+  abbrev n : ℕ
+  n = l .variables
 
-module _ {t : List ℤ} {n : ℕ} {v : List ℕ} {d : ℕ} {plan : List ℕ} {trail : List ℤ} (k : Walkable t n v d plan trail) where
-  -- the state that settling leaves may be walked
-  pub rested-walkable : (u : List ℕ) → Ended n (clauses t) (stateOf v) (stateOf u) → InRange u → Walkable t n u d plan trail
-  rested-walkable u e r = record {
-    ready = record { readable = k .ready .readable; range = r };
-    within = k .within;
-    well = e .well;
-    small = k .small;
-    plan-room = k .plan-room;
-    trail-room = k .trail-room;
-    deep = omega (arith, k .deep, e .fewer);
+  abbrev f : Formula
+  f = formulaOf ix
+
+  -- "Dead end: no layout here."
+  pub died-walk : Died f (stateIn st) → walkFrom true l f (stateIn st) plan trail ≡ treeWalk l f (stateIn st) plan trail
+  died-walk d = dead-walk n (l .depth) (l .left) plan trail _ (at-dead-end (k .within) (stateIn st) (b .well) (died-settles (k .within) (b .well) d))
+
+  module _ {st′ wk′ : List ℕ} (r : Rested ix st st′ wk′) where
+    pub rested-well : WellFormed n (stateIn st′)
+    rested-well = steps-well (k .within) (r .steps .1) (b .well)
+
+    pub rested-fewer : opens (stateIn st′) n ≤ opens (stateIn st) n
+    rested-fewer = omega (arith, steps-close (k .within) (r .steps .1) (b .well))
+
+    pub rested-branchable : Branchable ix st′ (l .from) n
+    rested-branchable = record {
+      calm = rested-calm r;
+      within = k .within;
+      small = k .small;
+      well = rested-well;
+      guard = guard-steps (k .within) (b .well) (r .steps .1) (b .guard);
+      positive = b .positive;
+    }
+
+    pub rested-splittable : (p : ℕ) → branchVariable f (stateIn st′) ≡ some p → Splittable ix st′ wk′ p l plan trail
+    rested-splittable p e = record { lasting = k; calm = rested-calm r; whole = r .sound .whole; well = rested-well; branch = e; deep = omega (arith, b .deep, rested-fewer) }
+
+-- what falls with each call: none of it is left at a dead end
+abbrev pub walkWeight : Bool → State → ℕ → ℕ
+walkWeight true s n = 0
+walkWeight false s n = 2 * opens s n + 1
+
+-- the sides of a split -----------------------------------------------------------------------------------------------
+
+module _ {ix st wk : List ℕ} {p : ℕ} {l : Level} {plan : List ℕ} {trail : List ℤ} (k : Splittable ix st wk p l plan trail) where
+  pub branch-open : Open (l .variables) (stateIn st) p
+  branch-open =
+      let b : Least _≤_ (InLive (formulaOf ix) (stateIn st)) p = rw (k .branch) at (branch-least (formulaOf ix) (stateIn st) (calm-closed (k .calm))) in
+      live-open (k .well) (k .lasting .within) (b .member)
+
+  -- a path from here on has a side at this depth
+  pub side-deep : l .depth < l .variables
+  side-deep = omega (arith, k .deep, side (k .well) branch-open FALSE refl .closes)
+
+  pub side-room : l .depth < length trail
+  side-room = omega (arith, side-deep, k .lasting .trail-room)
+
+  root-value : valueIn st p ≡ 2 * p
+  root-value = sym (codeOf-literalAt (valueIn st p)) ∙ ap codeOf (sym (stateOf-inside (tallyOf st .values) p (omega (arith, branch-open .inside, k .lasting .small))) ∙ branch-open .root)
+
+  -- both literals of the branch variable may be made false
+  pub side-siding : (x : ℕ) → x / 2 ≡ p → (wk′ : List ℕ) → Whole wk′ → Siding ix st wk′ x
+  side-siding x e wk′ w = record {
+    calm = k .calm;
+    well = wider (k .lasting .small) (k .well);
+    whole = w;
+    opened = omega (arith, branch-open .positive);
+    below = omega (arith, branch-open .inside, k .lasting .small);
+    root = rw e root-value;
   }
 
-  module _ {p : ℕ} (o : Open n (stateOf v) p) where
-    -- a path from here on has a side at d
-    pub side-deep : d < n
-    side-deep = omega (arith, k .deep, side (k .well) o FALSE refl .closes)
+  -- making the literal of code x false gives p the value t
+  module _ (x : ℕ) (t : Literal) (constant : var t ≡ 0) (is : assign (literalAt x) FALSE (stateIn st) ≡ assign (Pos p) t (stateIn st)) where
+    abbrev sideState : State
+    sideState = assign (Pos p) t (stateIn st)
 
-    pub side-room : d < length trail
-    side-room = omega (arith, side-deep, k .trail-room)
+    side-well : WellFormed (l .variables) sideState
+    side-well = side (k .well) branch-open t constant .well
 
-    -- a side has fewer open variables, and may be walked
-    pub side-walkable : (x : Literal) → var x ≡ 0 → (w : List ℕ) → stateOf w ≡ assign (Pos p) x (stateOf v) → InRange w →
-        (plan′ : List ℕ) (trail′ : List ℤ) → length plan′ ≡ length plan → length trail′ ≡ length trail →
-        (opens (stateOf w) n < opens (stateOf v) n) × Walkable t n w (d + 1) plan′ trail′
-    side-walkable x z w e r plan′ trail′ lp lt =
-        let s : Side n (stateOf v) (stateOf w) = rw e (side (k .well) o x z) in (
-          omega (arith, s .closes),
-          record {
-            ready = record { readable = k .ready .readable; range = r };
-            within = k .within;
-            well = s .well;
-            small = k .small;
-            plan-room = omega (arith, k .plan-room);
-            trail-room = omega (arith, k .trail-room);
-            deep = omega (arith, k .deep, s .closes);
-          },
-        )
+    module _ (st′ wk′ : List ℕ) where
+      -- a side has fewer open variables, and may be walked
+      pub side-walkable : (r : Bool) → Begun ix st x st′ wk′ r → (left : ℕ) (plan′ : List ℕ) (trail′ : List ℤ) → length plan′ ≡ length plan → length trail′ ≡ length trail →
+          Walkable ix st′ wk′ r (under p left l) plan′ trail′
+      side-walkable r b left plan′ trail′ lp lt = record { lasting = lasts; begins = go r b }
+        where
+          lasts : Lasting ix (under p left l) plan′ trail′
+          lasts = record {
+            within = k .lasting .within;
+            small = k .lasting .small;
+            plan-room = omega (arith, k .lasting .plan-room);
+            trail-room = omega (arith, k .lasting .trail-room);
+          }
 
-    pub side-passable : (count splits left : ℕ) → splits + count ≤ left → Fits w32 left → (x : Literal) → var x ≡ p → (trail′ : List ℤ) → length trail′ ≡ length trail →
-        Passable count splits x d trail′
-    side-passable count splits left h f x e trail′ l =
-        record { sum = omega arith; room = omega (arith, side-room); small = omega (arith, o .inside, k .small) }
+          go : (r : Bool) → Begun ix st x st′ wk′ r → Begins ix st′ wk′ (under p left l) r
+          go true b = b .1
+          go false b =
+              let e : stateIn st′ ≡ sideState = b .0 ∙ is in
+              let g : Guard (formulaOf ix) sideState (p + 1) = let q : suc p ≡ p + 1 = omega arith in rw q at (guard-split (stateIn st) (calm-closed (k .calm)) (k .branch) t constant) in
+              record {
+                ready = b .1;
+                well = rw e side-well;
+                guard = rw e g;
+                positive = omega arith;
+                deep = rw e (omega (arith, k .deep, side (k .well) branch-open t constant .closes));
+              }
+
+      pub side-falls : (r : Bool) → Begun ix st x st′ wk′ r → walkWeight r (stateIn st′) (l .variables) < 2 * opens (stateIn st) (l .variables)
+      side-falls true b = omega (arith, side (k .well) branch-open t constant .closes)
+      side-falls false b = let e : stateIn st′ ≡ sideState = b .0 ∙ is in rw e (omega (arith, side (k .well) branch-open t constant .closes))
+
+      -- whether its first step met a dead end or not, the side is walked
+      pub side-walk : (r : Bool) → Begun ix st x st′ wk′ r → (left : ℕ) (plan′ : List ℕ) (trail′ : List ℤ) →
+          walkFrom r (under p left l) (formulaOf ix) (stateIn st′) plan′ trail′ ≡ treeWalk (under p left l) (formulaOf ix) sideState plan′ trail′
+      side-walk true b left plan′ trail′ =
+          let d : Dies (formulaOf ix) sideState = rw is at (dies-in (b .0)) in
+          dead-walk (l .variables) (l .depth + 1) left plan′ trail′ _ (at-dead-end (k .lasting .within) sideState side-well (settled-dead (k .lasting .within) side-well none-left d))
+      side-walk false b left plan′ trail′ = let e : stateIn st′ ≡ sideState = b .0 ∙ is in rw e
+
+  pub side-passable : (count splits left : ℕ) → splits + count ≤ left → Fits w32 left → (x : Literal) → var x ≡ p → (trail′ : List ℤ) → length trail′ ≡ length trail →
+      Passable count splits x (l .depth) trail′
+  side-passable count splits left h f x e trail′ q =
+      record { sum = omega arith; room = omega (arith, side-room); small = omega (arith, branch-open .inside, k .lasting .small) }
+
+-- the two literals of the branch variable, by their codes
+pub out-is : (p x : ℕ) → x ≡ codeOf (Pos p) → (s : State) → assign (literalAt x) FALSE s ≡ assign (Pos p) FALSE s
+out-is p x e s = rw (e, literalAt-codeOf (Pos p))
+
+pub taken-is : (p x : ℕ) → x ≡ codeOf (Neg p) → (s : State) → assign (literalAt x) FALSE s ≡ assign (Pos p) TRUE s
+taken-is p x e s = rw (e, literalAt-codeOf (Neg p)) (assign-turned s (Pos p) TRUE)

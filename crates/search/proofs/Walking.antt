@@ -46,6 +46,10 @@ module _ {n : ℕ} {f : Formula} (within : Within n f) (s : State) (w : WellForm
   pub at-rest : (u : State) → settle n f s ≡ rest u → (o : Option ℕ) → branchVariable f u ≡ o → treeFrom n f s ≡ visit walk 1 (splitOn n u o)
   at-rest u e o z = decided-at (rest u) e ∙ ap (λ d. visit walk 1 (splitOn n u d)) z
 
+-- a walk from where steps have led is one from where they began
+pub same-walk : {n : ℕ} {f : Formula} → Within n f → (s u : State) → WellFormed n s → WellFormed n u → settle n f u ≡ settle n f s → treeFrom n f u ≡ treeFrom n f s
+same-walk within s u w v e = decided-at within u v _ e ∙ sym (decided-at within s w _ refl)
+
 -- walks that end without a split
 module _ (n d b : ℕ) (p : List ℕ) (t : List ℤ) (r : Run Choice) where
   pub dead-walk : r ≡ run [] 0 → walkOf n d (finish (run [] 0)) p t ≡ walkOf n d (limited b r) p t

@@ -1,3 +1,4 @@
+pub mod Side
 pub mod Branch
 pub mod Walk
 pub mod Call

@@ -1,29 +1,30 @@
 // Search: the first layout of a table, by the split tree of document 01.
 ghost use mathlib.Core.Path.{_≡_};
 ghost use mathlib.Core.List.{map};
-ghost use mathlib.Core.Option.{some};
-ghost use Prim.Native.Nat.{_≤_};
+ghost use Prim.Native.Nat.{_+_, _*_, _-_, _≤_, _<_};
 ghost use lib.ListN.{length};
 ghost use Rattle.general.specs.Booleans.{bit};
-ghost use Rattle.literal.specs.Literal.{var, maxVariables};
-ghost use Rattle.theory.specs.Formula.{clauses, holds};
-ghost use Rattle.theory.specs.State.{Open};
-ghost use Rattle.theory.specs.Search.{onlyConstant, lowest, branchVariable, choiceOf};
+ghost use Rattle.literal.specs.Literal.{maxVariables};
+ghost use Rattle.theory.specs.Formula.{holds};
+ghost use Rattle.theory.specs.Search.{onlyConstant, branchVariable, choiceOf};
 ghost use Rattle.theory.specs.Calls.{over, searchCall};
-ghost use Rattle.state.specs.State.{stateOf};
-ghost use Rattle.clause.specs.Reading.{Ready, clauseAt};
-ghost use Rattle.search.specs.Branch.{branchOf, lowerOf};
-ghost use Rattle.search.specs.Walk.{Walkable, walked, treeWalk, splitWalk, Passable, counted, noted};
+ghost use Rattle.occurrences.specs.Index.{formulaOf};
+ghost use Rattle.tally.specs.Tally.{stateIn};
+ghost use Rattle.notes.specs.Notes.{Whole};
+ghost use Rattle.search.specs.Branch.{branchOf, Branching, BranchesOn, Branchable};
+ghost use Rattle.search.specs.Side.{Siding, Begun};
+ghost use Rattle.search.specs.Walk.{Walkable, Splittable, walked, walkFrom, splitWalk, tableWalk, Searchable, Passable, counted, noted, under};
 ghost use Rattle.search.specs.Call.{called};
-use clause::Next;
 use literal::Literal;
 use literal::Variable;
+use notes::Notes;
+use occurrences::Index;
 use receipt::Checked;
 use receipt::Fault;
 use receipt::Outcome;
 use receipt::Refusal;
 use receipt::Searching;
-use state::State;
+use tally::Tally;
 
 // The variable to split on, if any clause is live.
 pub enum Branch {
@@ -37,57 +38,38 @@ pub struct Walk {
     pub count: u32,
 }
 
+// Where a walk stands: of how many variables, from which one on the next branch variable is looked for, the splits left, and the splits above.
+pub struct Level {
+    pub variables: usize,
+    pub from: usize,
+    pub left: u32,
+    pub depth: usize,
+}
+
 // The branch variable -----------------------------------------------------------------------------------------------
 
-// The lower of what was found and one more variable.
-fn lower(found: Branch, p: Variable) -> Branch
-    ensures { λ r. ⌜ branchOf r ≡ lowerOf (branchOf found) (some (p .0)) ⌝ }
+// Variable p is an open root that stands in a live clause.
+fn branches_on(index: &Index, state: &Tally, p: usize) -> bool
+    requires { ⌜ Branching (now index) (now state) p ⌝ }
+    ensures { λ r. ⌜ BranchesOn (now (index .entry)) (now (state .entry)) p r ⌝ }
 {
-    let Branch::On(q) = found else {
-        return Branch::On(p);
-    };
-    if p.0 < q.0 {
-        return Branch::On(p);
+    if tally::value_of(state, p) != 2 * (p as u16) {
+        return false;
     }
-    found
+    gather::stands_live(index, state, p as u16)
 }
 
-// The lowest of what was found and the variables that stand in the clause at `from`.
-fn lowest_at(
-    table: &[i16],
-    values: &[u16; Literal::VARIABLES],
-    from: usize,
-    found: Branch,
-) -> Branch
-    requires { ⌜ Ready (now table) (now values) ⌝ }
-    ensures { λ r. ⌜ branchOf r ≡ lowerOf (branchOf found) (lowest (map var (clauseAt (now (table .entry)) (now (values .entry)) from))) ⌝ }
+// The lowest open variable that stands in a live clause. None below `from` does.
+fn branch_variable(index: &Index, state: &Tally, from: usize, n: usize) -> Branch
+    requires { ⌜ Branchable (now index) (now state) from n ⌝ }
+    ensures { λ r. ⌜ branchOf r ≡ branchVariable (formulaOf (now (index .entry))) (stateIn (now (state .entry))) ⌝ }
 {
-    let mut lowest = found;
-    let mut i = from;
-    loop {
-        let next = clause::next_literal(table, values, i);
-        let Next::Stands(x, after) = next else {
-            return lowest;
-        };
-        lowest = lower(lowest, x.variable());
-        i = after;
-    }
-}
-
-// The lowest open variable that stands in a live clause.
-fn branch_variable(table: &[i16], values: &[u16; Literal::VARIABLES]) -> Branch
-    requires { ⌜ Ready (now table) (now values) ⌝ }
-    ensures { λ r. ⌜ branchOf r ≡ branchVariable (clauses (now (table .entry))) (stateOf (now (values .entry))) ⌝ }
-{
-    let mut lowest = Branch::Nowhere;
-    let mut from = 0;
-    while from < table.len() {
-        if clause::live(table, values, from) {
-            lowest = lowest_at(table, values, from, lowest);
+    for p in from..n + 1 {
+        if branches_on(index, state, p) {
+            return Branch::On(Variable(p as u16));
         }
-        from = clause::next_clause(table, from);
     }
-    lowest
+    Branch::Nowhere
 }
 
 // The walk ----------------------------------------------------------------------------------------------------------
@@ -103,81 +85,124 @@ fn chosen(x: Literal) -> u8
 }
 
 // A layout where no clause is live: open variables are left out, tied ones follow.
-fn write_choice(plan: &mut [u8], n: usize, state: State)
+fn write_choice(plan: &mut [u8], n: usize, state: &Tally)
     requires { ⌜ n ≤ length (now plan) ⌝ }
     requires { ⌜ n ≤ maxVariables ⌝ }
-    ensures { λ _. ⌜ now (plan .exit) ≡ over n (map bit (choiceOf n (stateOf (state .values)))) (now (plan .entry)) ⌝ }
+    ensures { λ _. ⌜ now (plan .exit) ≡ over n (map bit (choiceOf n (stateIn (now (state .entry))))) (now (plan .entry)) ⌝ }
 {
     for i in 0..n {
-        plan[i] = chosen(state::root(&state.values, Variable((i + 1) as u16)));
+        plan[i] = chosen(Literal::of_code(tally::value_of(state, i + 1)));
+    }
+}
+
+// The first step of a side of a split: nothing is listed yet, and the open literal x becomes false; true is a dead end.
+fn begin_side(index: &Index, state: &mut Tally, work: &mut Notes, x: u16) -> bool
+    requires { ⌜ Siding (now index) (now state) (now work) x ⌝ }
+    ensures { λ r. ⌜ Begun (now (index .entry)) (now (state .entry)) x (now (state .exit)) (now (work .exit)) r ⌝ }
+{
+    notes::set_todo_end(work, 0);
+    notes::set_roots_end(work, 0);
+    decide::decide(index, state, work, x)
+}
+
+// The level below a split on p, with `left` splits left.
+fn below(level: Level, p: Variable, left: u32) -> Level
+    requires { ⌜ level .depth ≤ maxVariables ⌝ }
+    ensures { λ r. ⌜ r ≡ under (p .0) left level ⌝ }
+{
+    Level {
+        variables: level.variables,
+        from: p.0 as usize + 1,
+        left,
+        depth: level.depth + 1,
     }
 }
 
 // "Settling hands over to the split": a dead end, a layout, or a split on the lowest open variable of a live clause.
 fn settle_and_decide(
-    table: &[i16],
-    n: usize,
-    state: State,
-    left: u32,
-    depth: usize,
+    index: &Index,
+    state: &mut Tally,
+    work: &mut Notes,
+    dead: bool,
+    level: Level,
     plan: &mut [u8],
     trail: &mut [i16],
 ) -> Walk
-    requires { ⌜ Walkable (now table) n (state .values) depth (now plan) (now trail) ⌝ }
-    ensures { λ r. ⌜ walked r (now (plan .exit)) (now (trail .exit)) ≡ treeWalk n (now (table .entry)) (state .values) left depth (now (plan .entry)) (now (trail .entry)) ⌝ }
+    requires { ⌜ Walkable (now index) (now state) (now work) dead level (now plan) (now trail) ⌝ }
+    ensures walks { λ r. ⌜ walked r (now (plan .exit)) (now (trail .exit)) ≡ walkFrom dead level (formulaOf (now (index .entry))) (stateIn (now (state .entry))) (now (plan .entry)) (now (trail .entry)) ⌝ }
+    ensures whole { λ _. ⌜ Whole (now (work .exit)) ⌝ }
 {
-    let settled = propagate::propagate(table, n, state);
-    if settled.dead {
+    if dead {
         return Walk {
             outcome: Outcome::NoLayout,
             count: 0,
         };
     }
-    let s = settled.state;
-    let branch = branch_variable(table, &s.values);
+    if engine::propagate(index, state, work) {
+        return Walk {
+            outcome: Outcome::NoLayout,
+            count: 0,
+        };
+    }
+    let branch = branch_variable(index, state, level.from, level.variables);
     let Branch::On(p) = branch else {
-        write_choice(plan, n, s);
+        write_choice(plan, level.variables, state);
         return Walk {
             outcome: Outcome::LaidOut,
             count: 0,
         };
     };
-    split(table, n, s, p, left, depth, plan, trail)
+    split(index, state, work, p, level, plan, trail)
 }
 
 // "try it left out, and only if that has no layout try it taken". The second side starts from the copy made before the first side runs.
 fn split(
-    table: &[i16],
-    n: usize,
-    state: State,
+    index: &Index,
+    state: &mut Tally,
+    work: &mut Notes,
     p: Variable,
-    left: u32,
-    depth: usize,
+    level: Level,
     plan: &mut [u8],
     trail: &mut [i16],
 ) -> Walk
-    requires { ⌜ Walkable (now table) n (state .values) depth (now plan) (now trail) ⌝ }
-    requires { ⌜ Open n (stateOf (state .values)) (p .0) ⌝ }
-    ensures { λ r. ⌜ walked r (now (plan .exit)) (now (trail .exit)) ≡ splitWalk n (now (table .entry)) (state .values) (p .0) left depth (now (plan .entry)) (now (trail .entry)) ⌝ }
+    requires { ⌜ Splittable (now index) (now state) (now work) (p .0) level (now plan) (now trail) ⌝ }
+    ensures walks { λ r. ⌜ walked r (now (plan .exit)) (now (trail .exit)) ≡ splitWalk (p .0) level (formulaOf (now (index .entry))) (stateIn (now (state .entry))) (now (plan .entry)) (now (trail .entry)) ⌝ }
+    ensures whole { λ _. ⌜ Whole (now (work .exit)) ⌝ }
 {
-    if left == 0 {
+    if level.left == 0 {
         return Walk {
             outcome: Outcome::Stopped,
             count: 0,
         };
     }
-    let second = state;
+    let mut second = *state;
     let x = Literal::Pos(p.0);
-    let out = state::assign(state, x, Literal::FALSE);
-    let a = settle_and_decide(table, n, out, left - 1, depth + 1, plan, trail);
+    let out = begin_side(index, state, work, x.code());
+    let a = settle_and_decide(
+        index,
+        state,
+        work,
+        out,
+        below(level, p, level.left - 1),
+        plan,
+        trail,
+    );
     let outcome = a.outcome;
     let Outcome::NoLayout = outcome else {
-        return through(a, 1, Literal::Neg(p.0), depth, trail);
+        return through(a, 1, Literal::Neg(p.0), level.depth, trail);
     };
     let used = 1 + a.count;
-    let taken = state::assign(second, x, Literal::TRUE);
-    let b = settle_and_decide(table, n, taken, left - used, depth + 1, plan, trail);
-    through(b, used, x, depth, trail)
+    let taken = begin_side(index, &mut second, work, x.opposite().code());
+    let b = settle_and_decide(
+        index,
+        &mut second,
+        work,
+        taken,
+        below(level, p, level.left - used),
+        plan,
+        trail,
+    );
+    through(b, used, x, level.depth, trail)
 }
 
 // A walk of one side, as a walk of the split: its splits count on, and on the path to a layout the side is written at its depth.
@@ -195,6 +220,32 @@ fn through(side: Walk, splits: u32, x: Literal, depth: usize, trail: &mut [i16])
     };
     trail[depth] = x.entry();
     walk
+}
+
+// The walk of a checked table from the initial state.
+fn walk_table(table: &[i16], n: usize, allowance: u32, plan: &mut [u8], trail: &mut [i16]) -> Walk
+    requires { ⌜ Searchable n (now table) (now plan) (now trail) ⌝ }
+    ensures { λ r. ⌜ walked r (now (plan .exit)) (now (trail .exit)) ≡ tableWalk n (now (table .entry)) allowance (now (plan .entry)) (now (trail .entry)) ⌝ }
+{
+    let index = occurrences::build(table);
+    let mut state = [0u16; tally::SIZE];
+    let mut work = [0u16; notes::SIZE];
+    let dead = start::start(&index.words, &mut state, &mut work);
+    let level = Level {
+        variables: n,
+        from: 1,
+        left: allowance,
+        depth: 0,
+    };
+    settle_and_decide(
+        &index.words,
+        &mut state,
+        &mut work,
+        dead,
+        level,
+        plan,
+        trail,
+    )
 }
 
 pub fn search(
@@ -218,7 +269,7 @@ pub fn search(
     }
     fill::clear_bytes(plan, n);
     fill::clear_numbers(trail, n);
-    let walk = settle_and_decide(table, n, state::initial(), allowance, 0, plan, trail);
+    let walk = walk_table(table, n, allowance, plan, trail);
     let outcome = walk.outcome;
     let count = walk.count;
     Searching::Ended { outcome, count }

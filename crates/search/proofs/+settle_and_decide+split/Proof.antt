@@ -8,51 +8,53 @@ use denote.Ref.{now}
 use borrow.Fn.Kinds.{In}
 use borrow.Fn.PlainCycle.{Measures, is, falls, and}
 use Rattle.literal.specs.declared.Literal.the-variants.{Pos}
-use Rattle.literal.specs.Literal.{TRUE, FALSE}
+use Rattle.literal.specs.Literal.{TRUE, FALSE, var, codeOf, literalAt}
 use Rattle.receipt.specs.declared.Outcome.the-variants.{NoLayout}
-use Rattle.theory.specs.Formula.{clauses}
-use Rattle.theory.specs.Propagation.{rest, settle}
-use Rattle.theory.specs.Search.{branchVariable, treeFrom}
+use Rattle.theory.specs.Search.{branchVariable}
 use Rattle.theory.specs.State.{opens, assign}
-use Rattle.theory.specs.Tree.{limited}
-use Rattle.theory.proofs.Propagation.{Ended}
-use Rattle.state.specs.State.{stateOf}
+use Rattle.occurrences.specs.Index.{formulaOf}
+use Rattle.tally.specs.Tally.{stateIn}
 use Rattle.search.specs.Branch.{branchOf}
-use Rattle.search.specs.Walk.{walked, walkOf}
+use Rattle.engine.specs.Ready.{Rested}
+use Rattle.engine.proofs.Settles.{rested-settles}
+use Rattle.search.specs.Walk.{Beginning, walked, treeWalk, under}
 use Rattle.search.proofs.Outcomes.{other-outcome}
-use Rattle.search.proofs.Sides.{settled-dead, settled-rest, rested, branch-open, rested-walkable, side-deep, side-room, side-walkable, side-passable}
-use Rattle.search.proofs.Walking.{walk-count, at-dead-end, at-rest, dead-walk, leaf-walk, none-left, first-side, second-side}
+use Rattle.search.proofs.Sides.{walkWeight, died-walk, rested-fewer, rested-branchable, rested-splittable, branch-open, side-deep, side-room, side-siding, side-walkable, side-falls, side-walk, side-passable, out-is, taken-is}
+use Rattle.search.proofs.Walking.{walk-count, at-rest, leaf-walk, none-left, first-side, second-side}
 use Rattle.search.proofs.settle_and_decide.Reads as settle-and-decide
 use Rattle.search.proofs.settle_and_decide.Kinds as settle-and-decide-kinds
 use Rattle.search.proofs.+settle_and_decide+split.Lts-settle_and_decide as decide-lts
 use Rattle.search.proofs.split.Reads as split
 use Rattle.search.proofs.split.Kinds as split-kinds
 use Rattle.search.proofs.+settle_and_decide+split.Lts-split as split-lts
+use Rattle.literal.proofs.Literal.code.Reads as code-reads
+use Rattle.literal.proofs.Literal.opposite.Reads as opposite-reads
+use Rattle.search.proofs.begin_side.Reads as begin-side-reads
+use Rattle.search.proofs.below.Reads as below-reads
 use Rattle.search.proofs.branch_variable.Reads as branch-variable-reads
-use Rattle.propagate.proofs.propagate.Reads as propagate-reads
+use Rattle.engine.proofs.propagate.Reads as propagate-reads
 use Rattle.search.proofs.through.Reads as through-reads
 use Rattle.search.proofs.write_choice.Reads as write-choice-reads
-use Rattle.state.proofs.assign.Reads as assign-reads
 use Rattle.search.proofs.+settle_and_decide+split.{statement}
 use Rattle.search.proofs.+settle_and_decide+split.Tie.{close}
 
-abbrev μ-settle-and-decide : Measures 3 settle-and-decide-kinds.ps ℕ
-μ-settle-and-decide κs a = 2 * opens (stateOf (a .1 .1 .0 .values)) (a .1 .0) + 1
+abbrev μ-settle-and-decide : Measures 5 settle-and-decide-kinds.ps ℕ
+μ-settle-and-decide κs a = walkWeight (a .1 .1 .1 .0) (stateIn (a .1 .0 .now)) (a .1 .1 .1 .1 .0 .variables)
 
-abbrev μ-split : Measures 3 split-kinds.ps ℕ
-μ-split κs a = 2 * opens (stateOf (a .1 .1 .0 .values)) (a .1 .0)
+abbrev μ-split : Measures 5 split-kinds.ps ℕ
+μ-split κs a = 2 * opens (stateIn (a .1 .0 .now)) (a .1 .1 .1 .1 .0 .variables)
 
-abbrev settle-and-decide-at : ℕ → In 3 settle-and-decide-kinds.ps
-settle-and-decide-at t = and 3 settle-and-decide-kinds.ps (is 3 settle-and-decide-kinds.ps μ-settle-and-decide t) settle-and-decide.Pre
+abbrev settle-and-decide-at : ℕ → In 5 settle-and-decide-kinds.ps
+settle-and-decide-at t = and 5 settle-and-decide-kinds.ps (is 5 settle-and-decide-kinds.ps μ-settle-and-decide t) settle-and-decide.Pre
 
-abbrev settle-and-decide-below : ℕ → In 3 settle-and-decide-kinds.ps
-settle-and-decide-below t = and 3 settle-and-decide-kinds.ps (falls 3 settle-and-decide-kinds.ps _<_ μ-settle-and-decide t) settle-and-decide.Pre
+abbrev settle-and-decide-below : ℕ → In 5 settle-and-decide-kinds.ps
+settle-and-decide-below t = and 5 settle-and-decide-kinds.ps (falls 5 settle-and-decide-kinds.ps _<_ μ-settle-and-decide t) settle-and-decide.Pre
 
-abbrev split-at : ℕ → In 3 split-kinds.ps
-split-at t = and 3 split-kinds.ps (is 3 split-kinds.ps μ-split t) split.Pre
+abbrev split-at : ℕ → In 5 split-kinds.ps
+split-at t = and 5 split-kinds.ps (is 5 split-kinds.ps μ-split t) split.Pre
 
-abbrev split-below : ℕ → In 3 split-kinds.ps
-split-below t = and 3 split-kinds.ps (falls 3 split-kinds.ps _<_ μ-split t) split.Pre
+abbrev split-below : ℕ → In 5 split-kinds.ps
+split-below t = and 5 split-kinds.ps (falls 5 split-kinds.ps _<_ μ-split t) split.Pre
 
 -- what the bodies call
 abbrev decide-calls : ℕ → decide-lts.Claims
@@ -60,140 +62,212 @@ decide-calls t =
     (propagate-reads.Asked, propagate-reads.Learnt, branch-variable-reads.Asked, branch-variable-reads.Learnt, write-choice-reads.Asked, write-choice-reads.Learnt, split-below t, split.Post)
 
 abbrev split-calls : ℕ → split-lts.Claims
-split-calls t = (assign-reads.Asked, assign-reads.Learnt, settle-and-decide-below t, settle-and-decide.Post, through-reads.Asked, through-reads.Learnt)
+split-calls t = (
+  code-reads.Asked,
+  code-reads.Learnt,
+  begin-side-reads.Asked,
+  begin-side-reads.Learnt,
+  below-reads.Asked,
+  below-reads.Learnt,
+  settle-and-decide-below t,
+  settle-and-decide.Post,
+  through-reads.Asked,
+  through-reads.Learnt,
+  opposite-reads.Asked,
+  opposite-reads.Learnt,
+)
 
 -- settling and the decision ----------------------------------------------------------------------------------------
 
+abbrev Alive : ℕ → Type 0
+Alive t = decide-lts.Else1 (decide-calls t) (settle-and-decide-at t) settle-and-decide.Post
+
+-- no dead end was met before
+begun : (t : ℕ) (c : Alive t) → let a = c .before .before .args in Beginning (now (a .index)) (now (a .state)) (now (a .work)) (a .level)
+begun t c = rw (c .if1 .left) at (c .before .before .pre .1 .begins)
+
 abbrev Rests : ℕ → Type 0
-Rests t = decide-lts.Else1 (decide-calls t) (settle-and-decide-at t) settle-and-decide.Post
+Rests t = decide-lts.Else2 (decide-calls t) (settle-and-decide-at t) settle-and-decide.Post
 
--- where settling rests
-rests : (t : ℕ) (c : Rests t) →
-    let a = c .before .before .before .args in
-    settle (a .n) (clauses (now (a .table))) (stateOf (a .state .values)) ≡ rest (stateOf (c .before .propagate .result .state .values))
-rests t c = settled-rest _ _ (c .before .propagate .ensures .0) (c .if1 .left)
-
-ended-at : (t : ℕ) (c : Rests t) →
-    let a = c .before .before .before .args in
-    Ended (a .n) (clauses (now (a .table))) (stateOf (a .state .values)) (stateOf (c .before .propagate .result .state .values))
-ended-at t c = let w = c .before .before .before .pre .1 in rested (w .within) (w .well) (rests t c)
+-- where propagation rests
+rested-at : (t : ℕ) (c : Rests t) →
+    let p = c .before in
+    let a = p .before .before .before .before .before .args in
+    Rested (now (a .index)) (now (a .state)) (p .propagate .last .1 .0) (p .propagate .last .1 .1 .0)
+rested-at t c = rw (c .if2 .left) at (c .before .propagate .ensures)
 
 -- the variable to split on
 branches-at : (t : ℕ) (c : decide-lts.After-branch (decide-calls t) (settle-and-decide-at t) settle-and-decide.Post) →
-    let e = c .before .before .before .before .before .before in
-    branchVariable (clauses (now (e .before .before .before .args .table))) (stateOf (e .before .propagate .result .state .values)) ≡ some (c .branch .given .0 .0 .0)
+    let p = c .before .before .before .before .before in
+    branchVariable (formulaOf (now (p .before .before .before .before .before .args .index))) (stateIn (p .propagate .last .1 .0)) ≡ some (c .branch .given .0 .0 .0)
 branches-at t c = sym (c .before .before .branch-variable .ensures) ∙ ap branchOf (c .branch .given .1)
 
 -- a split and its two sides ----------------------------------------------------------------------------------------
 
+abbrev FirstBegun : ℕ → Type 0
+FirstBegun t = split-lts.After-begin-side (split-calls t) (split-at t) split.Post
+
 abbrev FirstWalked : ℕ → Type 0
 FirstWalked t = split-lts.After-settle-and-decide (split-calls t) (split-at t) split.Post
+
+abbrev SecondBegun : ℕ → Type 0
+SecondBegun t = split-lts.After-begin-side2 (split-calls t) (split-at t) split.Post
 
 abbrev SecondWalked : ℕ → Type 0
 SecondWalked t = split-lts.After-settle-and-decide2 (split-calls t) (split-at t) split.Post
 
+first-is : (t : ℕ) (b : FirstBegun t) →
+    let a = b .before .before .before .before .before .before .before .before .args in
+    assign (literalAt (b .before .code .result)) FALSE (stateIn (now (a .state))) ≡ assign (Pos (a .p .0)) FALSE (stateIn (now (a .state)))
+first-is t b = let a = b .before .before .before .before .before .before .before .before .args in out-is (a .p .0) (b .before .code .result) (b .before .code .ensures) (stateIn (now (a .state)))
+
 -- what the first side makes, from the left-out state; its count is within its allowance
 first-walk : (t : ℕ) (f : FirstWalked t) →
-    let a = f .before .before .before .before .before .before .args in
+    let a = f .before .before .before .before .before .before .before .before .before .before .before .before .before .before .before .args in
     walked (f .settle-and-decide .result) (f .settle-and-decide .last .1 .1 .1 .1 .1 .0) (f .settle-and-decide .last .1 .1 .1 .1 .1 .1 .0) ≡
-    walkOf (a .n) (a .depth + 1) (limited (a .left - 1) (treeFrom (a .n) (clauses (now (a .table))) (assign (Pos (a .p .0)) FALSE (stateOf (a .state .values))))) (now (a .plan)) (now (a .trail))
-first-walk t f = f .settle-and-decide .ensures ∙ rw (f .before .before .before .assign .ensures .0)
+    treeWalk (under (a .p .0) (a .level .left - 1) (a .level)) (formulaOf (now (a .index))) (assign (Pos (a .p .0)) FALSE (stateIn (now (a .state)))) (now (a .plan)) (now (a .trail))
+first-walk t f =
+    let g = f .before .before .before .before .before .before .before in
+    rw (f .before .before .before .below .ensures) at (f .settle-and-decide .ensures .0) ∙
+    side-walk (f .before .before .before .before .before .before .before .before .before .before .before .before .before .before .before .pre .1) _ FALSE refl (first-is t g) (g .begin-side .last .1 .0) (g .begin-side .last .1 .1 .0) (g .begin-side .result) (g .begin-side .ensures) _ _ _
 
-first-count : (t : ℕ) (f : FirstWalked t) → f .settle-and-decide .result .count + 1 ≤ f .before .before .before .before .before .before .args .left
-first-count t f = omega (arith, walk-count _ _ _ _ _ _ _ (first-walk t f), f .before .before .before .before .if1 .left)
+first-count : (t : ℕ) (f : FirstWalked t) → f .settle-and-decide .result .count + 1 ≤ f .before .before .before .before .before .before .before .before .before .before .before .before .before .before .before .args .level .left
+first-count t f = omega (arith, walk-count _ _ _ _ _ _ _ (first-walk t f), f .before .before .before .before .before .before .before .before .before .before .before .before .if1 .left)
+
+second-is : (t : ℕ) (b : SecondBegun t) →
+    let a = b .before .before .before .before .before .before .before .before .before .before .before .before .before .before .before .before .before .before .before .before .before .before .before .before .before .before .args in
+    assign (literalAt (b .before .code2 .result)) FALSE (stateIn (now (a .state))) ≡ assign (Pos (a .p .0)) TRUE (stateIn (now (a .state)))
+second-is t b = let a = b .before .before .before .before .before .before .before .before .before .before .before .before .before .before .before .before .before .before .before .before .before .before .before .before .before .before .args in taken-is (a .p .0) (b .before .code2 .result) (b .before .code2 .ensures ∙ ap codeOf (b .before .before .opposite .ensures)) (stateIn (now (a .state)))
 
 -- and the second, from the taken state and with what the first side leaves
 second-walk : (t : ℕ) (b : SecondWalked t) →
-    let f = b .before .before .before .before .before .before .before .before .before .before in
-    let a = f .before .before .before .before .before .before .args in
+    let f = b .before .before .before .before .before .before .before .before .before .before .before .before .before .before .before .before .before .before in
+    let a = f .before .before .before .before .before .before .before .before .before .before .before .before .before .before .before .args in
     walked (b .settle-and-decide2 .result) (b .settle-and-decide2 .last .1 .1 .1 .1 .1 .0) (b .settle-and-decide2 .last .1 .1 .1 .1 .1 .1 .0) ≡
-    walkOf (a .n) (a .depth + 1) (limited (a .left - (1 + f .settle-and-decide .result .count)) (treeFrom (a .n) (clauses (now (a .table))) (assign (Pos (a .p .0)) TRUE (stateOf (a .state .values)))))
+    treeWalk (under (a .p .0) (a .level .left - (1 + f .settle-and-decide .result .count)) (a .level)) (formulaOf (now (a .index))) (assign (Pos (a .p .0)) TRUE (stateIn (now (a .state))))
     (f .settle-and-decide .last .1 .1 .1 .1 .1 .0) (f .settle-and-decide .last .1 .1 .1 .1 .1 .1 .0)
-second-walk t b = b .settle-and-decide2 .ensures ∙ rw (b .before .before .before .assign2 .ensures .0)
+second-walk t b =
+    let g = b .before .before .before .before .before .before .before in
+    rw (b .before .before .before .below2 .ensures) at (b .settle-and-decide2 .ensures .0) ∙
+    side-walk (b .before .before .before .before .before .before .before .before .before .before .before .before .before .before .before .before .before .before .before .before .before .before .before .before .before .before .before .before .before .before .before .before .before .pre .1) _ TRUE refl (second-is t g) (g .begin-side2 .last .1 .0) (g .begin-side2 .last .1 .1 .0) (g .begin-side2 .result) (g .begin-side2 .ensures) _ _ _
 
 pub +settle-and-decide+split-spec : {M : Type 1} → statement M
 +settle-and-decide+split-spec =
     close μ-settle-and-decide μ-split
     (λ t. decide-lts.spec (decide-calls t) (settle-and-decide-at t) settle-and-decide.Post
-    (λ c κs. let w = c .before .pre .1 in (w .ready, (w .within, (w .well, w .small))))
-    (λ c. let w = c .before .before .before .pre .1 in dead-walk _ _ _ _ _ _ (at-dead-end (w .within) _ (w .well) (settled-dead _ _ (c .before .propagate .ensures .0) (c .if1 .taken))))
-    (λ c κs. let r = c .before .before .before .before in record { readable = r .before .before .pre .1 .ready .readable; range = r .propagate .ensures .1 })
+    (λ c. let s = c .before .before in (rw (c .if1 .taken), rw (c .if1 .taken) at (s .pre .1 .begins)))
+    (λ c κs. begun t (c .before .before) .ready)
+    (λ c.
+    let p = c .before in
+    let e = p .before .before .before in
+    let d = rw (c .if2 .taken) at (p .propagate .ensures) in
+    (rw (e .if1 .left) (died-walk (e .before .before .pre .1 .lasting) (begun t e) (d .0)), d .1))
+    (λ c κs.
+    let r = c .before in
+    let e = r .before .before .before .before in
+    rested-branchable (e .before .before .pre .1 .lasting) (begun t e) (rested-at t r))
     (λ c. search needs)
     (λ c. search needs)
-    (λ c κs. search needs)
+    (λ c κs.
+    let e = c .before .before .before .before .before .before .before .before .before .before in
+    let k = e .before .before .pre .1 .lasting in (k .plan-room, k .small))
     (λ c. search needs)
     (λ c.
-    let o = c .before .before .before .before in
+    let o = c .before .before .before .before .before in
     let b = o .before .before in
-    let e = b .before .before .before .before in
-    let w = e .before .before .before .pre .1 in
-    rw (c .before .before .write-choice .ensures)
-    (leaf-walk _ _ _ _ _ _ _ (at-rest (w .within) _ (w .well) _ (rests t e) none (sym (b .branch-variable .ensures) ∙ ap branchOf (o .enum-told .given .1)))))
-    (λ c κs.
-    let r = c .before .before .before in
-    let e = r .before .before .before .before .before .before in
-    let w = e .before .before .before .pre in (
-      omega (arith, ended-at t e .fewer, w .0),
-      (rested-walkable (w .1) _ (ended-at t e) (e .before .propagate .ensures .1), branch-open (w .1 .within) (w .1 .well) (rests t e) _ (branches-at t r)),
+    let r = b .before .before in
+    let e = r .before .before .before .before in
+    let k = e .before .before .pre .1 .lasting in
+    let g = begun t e in (
+      rw (e .if1 .left, c .before .before .write-choice .ensures)
+          (leaf-walk _ _ _ _ _ _ _ (at-rest (k .within) _ (g .well) _ (rested-settles (k .within) (g .well) (rested-at t r)) none (sym (b .branch-variable .ensures) ∙ ap branchOf (o .enum-told .given .1)))),
+      rested-at t r .sound .whole,
     ))
+    (λ c κs.
+    let h = c .before .before .before .before .before in
+    let r = h .before .before .before .before in
+    let e = r .before .before .before .before in
+    let k = e .before .before .pre .1 .lasting in
+    let g = begun t e in
+    let m = rw (e .if1 .left) at (e .before .before .pre .0) in
+    (omega (arith, m, rested-fewer k g (rested-at t r)), rested-splittable k g (rested-at t r) _ (branches-at t h)))
     (λ c. search needs)
     (λ c. search needs)
     (λ c.
     let s = c .before .before .before in
-    let r = s .before .before .before .before in
-    let e = r .before .before .before .before .before .before in
-    let w = e .before .before .before .pre .1 in
-    s .split .ensures ∙ rw (at-rest (w .within) _ (w .well) _ (rests t e) _ (branches-at t r))))
+    let h = s .before .before .before .before .before .before in
+    let r = h .before .before .before .before in
+    let e = r .before .before .before .before in
+    let k = e .before .before .pre .1 .lasting in
+    let g = begun t e in
+    (rw (e .if1 .left) (s .split .ensures .0 ∙ rw (at-rest (k .within) _ (g .well) _ (rested-settles (k .within) (g .well) (rested-at t r)) _ (branches-at t h))), s .split .ensures .1)))
     (λ t. split-lts.spec (split-calls t) (split-at t) split.Post
-    (λ c. let a = c .before .before .args in none-left (a .n) (clauses (now (a .table))) (stateOf (a .state .values)) (a .p .0) _ _ _ _ (c .if1 .taken))
-    (λ c κs. let w = c .before .before .pre .1 in (omega (arith, w .1 .inside, w .0 .small), (omega arith, w .0 .ready .range)))
-    (λ c. search needs)
-    (λ c. let w = c .before .before .before .pre .1 in omega (arith, side-deep (w .0) (w .1), w .0 .small))
+    (λ c. let s = c .before .before .before in let a = s .args in
+    (none-left (a .level .variables) (formulaOf (now (a .index))) (stateIn (now (a .state))) (a .p .0) _ _ _ _ (c .if1 .taken), s .pre .1 .whole))
+    (λ c κs. let k = c .before .before .before .before .before .before .pre .1 in omega (arith, branch-open k .inside, k .lasting .small))
+    (λ c κs. let k = c .before .before .before .before .before .before .before .pre .1 in side-siding k _ (omega (arith, c .code .ensures)) _ (k .whole))
+    (λ c. omega (arith, c .before .before .before .before .before .before .before .before .if1 .left))
+    (λ c κs. let k = c .before .before .before .before .before .before .before .before .before .before .before .pre .1 in omega (arith, side-deep k, k .lasting .small))
     (λ c κs.
-    let g = c .before .before in
-    let w = g .before .before .before .pre in
-    let s = side-walkable (w .1 .0) (w .1 .1) _ refl _ (g .assign .ensures .0) (g .assign .ensures .1) _ _ refl refl in
-    (omega (arith, s .0, w .0), s .1))
+    let g = c .before .before .before .before .before .before in
+    let s = c .before .before .before .before .before .before .before .before .before .before .before .before .before .before in
+    let k = s .pre .1 in
+    let r = g .begin-side .result in
+    rw (c .before .before .below .ensures)
+    (omega (arith, side-falls k _ FALSE refl (first-is t g) (g .begin-side .last .1 .0) (g .begin-side .last .1 .1 .0) r (g .begin-side .ensures), s .pre .0), side-walkable k _ FALSE refl (first-is t g) (g .begin-side .last .1 .0) (g .begin-side .last .1 .1 .0) r (g .begin-side .ensures) _ _ _ refl refl))
     (λ c. search needs)
     (λ c κs.
     let f = c .before .before .before .before .before in
-    let s = f .before .before .before .before .before .before in
-    side-passable (s .pre .1 .0) (s .pre .1 .1) _ _ (s .args .left) (omega (arith, first-count t f)) (s .fits .left) _ refl _ (f .settle-and-decide .kept .1 .1 .1 .1 .1 .1 .0))
+    let s = f .before .before .before .before .before .before .before .before .before .before .before .before .before .before .before in
+    side-passable (s .pre .1) _ _ (s .args .level .left) (omega (arith, first-count t f)) (f .before .before .before .before .before .before .before .before .before .before .before .before .before .struct-known .given .1 .1 .0) _ refl _ (f .settle-and-decide .kept .1 .1 .1 .1 .1 .1 .0))
     (λ c. search needs)
     (λ c. search needs)
     (λ c.
     let f = c .before .before .before .before .before .before .before in
-    let s = f .before .before .before .before .before .before in
-    let a = s .args in
-    rw (c .before .through .ensures .0, c .before .through .ensures .1)
-    (first-side (a .n) (clauses (now (a .table))) (stateOf (a .state .values)) (a .p .0) (a .depth) (now (a .plan)) (now (a .trail)) (a .left)
-    (f .before .before .before .before .if1 .left) (side-room (s .pre .1 .0) (s .pre .1 .1)) _ (first-walk t f)
-    (other-outcome (f .settle-and-decide .result .outcome) NoLayout 0 2 (c .before .before .before .match .keys2) (λ e. omega arith) (λ e. omega arith))))
+    let s = f .before .before .before .before .before .before .before .before .before .before .before .before .before .before .before in
+    let a = s .args in (
+      rw (c .before .through .ensures .0, c .before .through .ensures .1)
+          (first-side (a .level .variables) (formulaOf (now (a .index))) (stateIn (now (a .state))) (a .p .0) (a .level .depth) (now (a .plan)) (now (a .trail)) (a .level .left)
+          (f .before .before .before .before .before .before .before .before .before .before .before .before .if1 .left) (side-room (s .pre .1)) _ (first-walk t f)
+          (other-outcome (f .settle-and-decide .result .outcome) NoLayout 0 2 (c .before .before .before .match .keys2) (λ e. omega arith) (λ e. omega arith))),
+      f .settle-and-decide .ensures .1,
+    ))
     (λ c. omega (arith, first-count t (c .before .before .before .before .before .before)))
-    (λ c κs. let w = c .before .before .before .before .before .before .before .before .before .before .before .before .pre .1 in (omega (arith, w .1 .inside, w .0 .small), (omega arith, w .0 .ready .range)))
-    (λ c. omega (arith, first-count t (c .before .before .before .before .before .before .before)))
-    (λ c. let w = c .before .before .before .before .before .before .before .before .before .before .before .before .before .pre .1 in omega (arith, side-deep (w .0) (w .1), w .0 .small))
+    (λ c κs. search needs)
+    (λ c κs. let k = c .before .before .before .before .before .before .before .before .before .before .before .before .before .before .before .before .before .before .before .before .before .before .before .before .pre .1 in omega (arith, ap var (c .opposite .ensures), branch-open k .inside, k .lasting .small))
+    (λ c κs. let k = c .before .before .before .before .before .before .before .before .before .before .before .before .before .before .before .before .before .before .before .before .before .before .before .before .before .pre .1 in let f = c .before .before .before .before .before .before .before .before .before .before in side-siding k _ (omega (arith, c .code2 .ensures ∙ ap codeOf (c .before .opposite .ensures))) _ (f .settle-and-decide .ensures .1))
+    (λ c. omega (arith, first-count t (c .before .before .before .before .before .before .before .before .before .before .before .before .before .before)))
+    (λ c κs. let k = c .before .before .before .before .before .before .before .before .before .before .before .before .before .before .before .before .before .before .before .before .before .before .before .before .before .before .before .before .before .pre .1 in omega (arith, side-deep k, k .lasting .small))
     (λ c κs.
-    let y = c .before .before in
-    let f = y .before .before .before .before .before .before .before in
-    let w = f .before .before .before .before .before .before .pre in
-    let s = side-walkable (w .1 .0) (w .1 .1) _ refl _ (y .assign2 .ensures .0) (y .assign2 .ensures .1) _ _ (f .settle-and-decide .kept .1 .1 .1 .1 .1 .0) (f .settle-and-decide .kept .1 .1 .1 .1 .1 .1 .0) in
-    (omega (arith, s .0, w .0), s .1))
+    let g = c .before .before .before .before .before .before in
+    let f = c .before .before .before .before .before .before .before .before .before .before .before .before .before .before .before .before .before in
+    let s = c .before .before .before .before .before .before .before .before .before .before .before .before .before .before .before .before .before .before .before .before .before .before .before .before .before .before .before .before .before .before .before .before in
+    let k = s .pre .1 in
+    let r = g .begin-side2 .result in
+    let st = g .begin-side2 .last .1 .0 in
+    let wk = g .begin-side2 .last .1 .1 .0 in
+    rw (c .before .before .below2 .ensures) (
+      omega (arith, side-falls k _ TRUE refl (second-is t g) st wk r (g .begin-side2 .ensures), s .pre .0),
+      side-walkable k _ TRUE refl (second-is t g) st wk r (g .begin-side2 .ensures) _ _ _ (f .settle-and-decide .kept .1 .1 .1 .1 .1 .0) (f .settle-and-decide .kept .1 .1 .1 .1 .1 .1 .0),
+    ))
     (λ c κs.
     let b = c .before .before .before .before in
-    let f = b .before .before .before .before .before .before .before .before .before .before in
-    let s = f .before .before .before .before .before .before in
-    side-passable (s .pre .1 .0) (s .pre .1 .1) _ _ (s .args .left)
-    (omega (arith, first-count t f, walk-count _ _ _ _ _ _ _ (second-walk t b))) (s .fits .left) _ refl _
+    let f = b .before .before .before .before .before .before .before .before .before .before .before .before .before .before .before .before .before .before in
+    let s = f .before .before .before .before .before .before .before .before .before .before .before .before .before .before .before in
+    side-passable (s .pre .1) _ _ (s .args .level .left)
+    (omega (arith, first-count t f, walk-count _ _ _ _ _ _ _ (second-walk t b))) (f .before .before .before .before .before .before .before .before .before .before .before .before .before .struct-known .given .1 .1 .0) _ refl _
     (b .settle-and-decide2 .kept .1 .1 .1 .1 .1 .1 .0 ∙ f .settle-and-decide .kept .1 .1 .1 .1 .1 .1 .0))
-    (λ c. search needs)
-    (λ c. search needs)
+    (λ c. let b = c .before .before .before .before .before .before in let f = b .before .before .before .before .before .before .before .before .before .before .before .before .before .before .before .before .before .before in b .settle-and-decide2 .kept .1 .1 .1 .1 .1 .0 ∙ f .settle-and-decide .kept .1 .1 .1 .1 .1 .0)
+    (λ c. let b = c .before .before .before .before .before .before in let f = b .before .before .before .before .before .before .before .before .before .before .before .before .before .before .before .before .before .before in
+    c .before .through2 .kept .1 .1 .1 .1 .0 ∙ (b .settle-and-decide2 .kept .1 .1 .1 .1 .1 .1 .0 ∙ f .settle-and-decide .kept .1 .1 .1 .1 .1 .1 .0))
     (λ c.
     let b = c .before .before .before .before .before .before in
-    let m = b .before .before .before .before .before in
+    let m = b .before .before .before .before .before .before .before .before .before .before .before .before .before in
     let f = m .before .before .before .before .before in
-    let s = f .before .before .before .before .before .before in
-    let a = s .args in
-    rw (c .before .through2 .ensures .0, c .before .through2 .ensures .1)
-    (second-side (a .n) (clauses (now (a .table))) (stateOf (a .state .values)) (a .p .0) (a .depth) (now (a .plan)) (now (a .trail)) (a .left)
-    (f .before .before .before .before .if1 .left) (side-room (s .pre .1 .0) (s .pre .1 .1)) _ (first-walk t f) (m .enum-told .given .1) _ (second-walk t b))))
+    let s = f .before .before .before .before .before .before .before .before .before .before .before .before .before .before .before in
+    let a = s .args in (
+      rw (c .before .through2 .ensures .0, c .before .through2 .ensures .1)
+          (second-side (a .level .variables) (formulaOf (now (a .index))) (stateIn (now (a .state))) (a .p .0) (a .level .depth) (now (a .plan)) (now (a .trail)) (a .level .left)
+          (f .before .before .before .before .before .before .before .before .before .before .before .before .if1 .left) (side-room (s .pre .1)) _ (first-walk t f) (m .enum-told .given .1) _ (second-walk t b)),
+      b .settle-and-decide2 .ensures .1,
+    )))

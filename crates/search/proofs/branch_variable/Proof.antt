@@ -1,50 +1,35 @@
--- `branch_variable` meets its contract: the lowest so far, taken on over the clauses that are left, is the branch variable.
-use Prim.Native.Nat.{_-_}
-use mathlib.Core.Path.{_≡_, sym, _∙_}
-use mathlib.Core.Logic.{⊎-elim}
+-- `branch_variable` meets its contract, by the laws of Branches.
+use Prim.Native.Nat.{_+_, _-_}
 use borrow.Author.Needs.{needs}
 use native.Mathlib.Omega.{arith}
-use lib.ListN.{length}
-use Rattle.theory.specs.Formula.{clauses}
-use Rattle.theory.specs.Search.{branchVariable}
-use Rattle.state.specs.State.{stateOf}
-use Rattle.clause.specs.Reading.{Begins}
-use Rattle.clause.proofs.Clauses.{Advances, advances, begins-first}
-use Rattle.search.specs.Branch.{branchOf}
-use Rattle.search.proofs.Lowest.{inClauses, clauses-first, clauses-live, clauses-other, clauses-done}
+use Rattle.search.proofs.Branches.{Passed, passed-begins, passed-branching, passed-found, passed-all, passed-more}
 use Rattle.search.proofs.branch_variable.Statement.{statement}
 use Rattle.search.proofs.branch_variable.Tie as tie
+use Rattle.search.proofs.branch_variable.Reads as reads
+use Rattle.search.proofs.branch_variable.Lts as lts
+use Rattle.search.proofs.branches_on.Reads as branches-on-reads
 
 abbrev Inv-loop : tie.InvT-loop
-Inv-loop table values lowest₀ from₀ lowest from = Begins table from × (inClauses table values (branchOf lowest) from ≡ branchVariable (clauses table) (stateOf values))
+Inv-loop index state from n p₀ p-end p = Passed index state from n p
 
 abbrev μ-loop : tie.MeasureT-loop
-μ-loop table values lowest₀ from₀ lowest from = length table - from
+μ-loop index state from n p₀ p-end p = n + 1 - p
 
--- the next clause of the table
-further : (c : tie.After-next-clause Inv-loop μ-loop) →
-    let l = c .before .before .before .before in Advances (l .before .args .table .now) (l .loop .from) (c .next-clause .result)
-further c = let h = c .before .before .before in advances (h .before .loop .inv .0) (h .loop-test .taken) (c .next-clause .ensures)
-
-loop-again : tie.Need-loop-again Inv-loop μ-loop
-loop-again c =
-    let j = c .before in
-    let l = j .before .before .before in
-    let a = l .before .args in
-    let o = branchOf (l .loop .lowest) in (
-      further c .begins,
-      ⊎-elim
-          (λ w. rw (w .2, w .1 .ensures) (clauses-live (a .table .now) (a .values .now) (further c) o (sym (j .before .live .ensures) ∙ w .0 .taken)))
-          (λ w. rw (w .1) (clauses-other (a .table .now) (a .values .now) (further c) o (sym (j .before .live .ensures) ∙ w .0 .left)))
-          (j .if1 .came) ∙
-          l .loop .inv .1,
-    )
+branches-on-requires : tie.Need-branches-on-requires Inv-loop μ-loop
+branches-on-requires c κs = passed-branching (c .before .loop .inv) (omega (arith, c .loop-test .taken))
 
 returns : tie.Need-returns Inv-loop μ-loop
 returns c =
-    let l = c .before in
-    let a = l .before .args in
-    sym (clauses-done (a .table .now) (a .values .now) (branchOf (l .loop .lowest)) (l .loop .from) (c .loop-test .left)) ∙ l .loop .inv .1
+    let b = c .before in
+    passed-found (b .before .before .loop .inv) (rw (c .if1 .taken) at (b .branches-on .ensures))
+
+loop-again : tie.Need-loop-again Inv-loop μ-loop
+loop-again c =
+    let b = c .before in
+    passed-more (b .before .before .loop .inv) (rw (c .if1 .left) at (b .branches-on .ensures))
+
+returns-2 : tie.Need-returns-2 Inv-loop μ-loop
+returns-2 c = passed-all (c .before .loop .inv) (omega (arith, c .loop-test .left))
 
 pub branch-variable-spec : {M : Type 1} → statement M
 branch-variable-spec =
@@ -52,10 +37,12 @@ branch-variable-spec =
     (tie.spec
     Inv-loop
     μ-loop
-    (λ c. (begins-first (c .pre .readable), clauses-first (c .args .table .now) (c .args .values .now)))
-    (λ c κs. search needs)
-    (λ c κs. search needs)
-    (λ c κs. search needs)
-    (λ c. omega (arith, further c .further, further c .begins .inside))
+    (λ c. omega (arith, c .pre .small))
+    (λ c. passed-begins (c .pre))
+    branches-on-requires
+    (λ c. omega (arith, c .before .before .loop-test .taken, c .before .before .before .loop .inv .able .small))
+    returns
+    (λ c. omega (arith, c .before .before .loop-test .taken, c .before .before .before .loop .inv .able .small))
+    (λ c. omega (arith, c .before .before .loop-test .taken))
     loop-again
-    returns)
+    returns-2)

@@ -1,11 +1,12 @@
 -- `search` meets its contract: the check, the room, and the walk from the initial state over cleared lists.
-use mathlib.Core.Path.{_≡_, sym, _∙_}
+use mathlib.Core.Path.{_≡_, refl, sym, _∙_}
 use borrow.Author.Needs.{needs}
 use native.Mathlib.Omega.{arith}
 use denote.Ref.{now}
 use lib.ListN.{length}
+use Rattle.theory.specs.State.{initial}
 use Rattle.theory.specs.Table.{Accepted}
-use Rattle.search.proofs.Calling.{call-refused, call-plan-short, call-trail-short, call-walked, start-walkable}
+use Rattle.search.proofs.Calling.{call-refused, call-plan-short, call-trail-short, call-walked}
 use Rattle.search.proofs.search.Statement.{statement}
 use Rattle.search.proofs.search.Tie as tie
 
@@ -25,28 +26,25 @@ returns-3 c =
     let e = c .before .before in
     rw (c .new2 .ensures) (call-trail-short _ _ _ _ _ (accepted (e .before)) (e .if1 .left) (c .before .if2 .taken))
 
-settle-and-decide-requires : tie.Need-settle-and-decide-requires
-settle-and-decide-requires c κs =
-    let i = c .before .before in
-    let n = i .before .before in
+walk-table-requires : tie.Need-walk-table-requires
+walk-table-requires c κs =
+    let n = c .before .before .before in
     let b = n .before .before .before .before in
     let e = b .before .before in
     let a = e .before .before .before .before .before .before .args in
     let lp : length (b .clear-bytes .last .0) ≡ length (now (a .plan)) = b .clear-bytes .kept .0 in
     let lt : length (n .clear-numbers .last .0) ≡ length (now (a .trail)) = n .clear-numbers .kept .0 in
-    start-walkable (a .n) (now (a .table)) (accepted (e .before .before)) _ (i .initial .ensures .0) (i .initial .ensures .1) _ _
-    (omega (arith, lp, e .before .if1 .left)) (omega (arith, lt, e .if2 .left))
+    record { accepted = accepted (e .before .before); plan-room = omega (arith, lp, e .before .if1 .left); trail-room = omega (arith, lt, e .if2 .left) }
 
 returns-4 : tie.Need-returns-4
 returns-4 c =
     let w = c .before .before .before in
-    let i = w .before .before .before in
-    let n = i .before .before in
+    let n = w .before .before .before .before in
     let b = n .before .before .before .before in
     let e = b .before .before in
     let a = e .before .before .before .before .before .before .args in
     call-walked (a .n) (now (a .table)) (a .allowance) (now (a .plan)) (now (a .trail)) (accepted (e .before .before)) (e .before .if1 .left) (e .if2 .left)
-    _ (i .initial .ensures .0) _ (b .clear-bytes .ensures) _ (n .clear-numbers .ensures) (w .settle-and-decide .result) _ _ (w .settle-and-decide .ensures)
+    initial refl _ (b .clear-bytes .ensures) _ (n .clear-numbers .ensures) (w .walk-table .result) _ _ (w .walk-table .ensures)
 
 pub search-spec : {M : Type 1} → statement M
 search-spec =
@@ -62,8 +60,7 @@ search-spec =
     returns-3
     (λ c κs. search needs)
     (λ c κs. search needs)
-    (λ c κs. search needs)
-    settle-and-decide-requires
+    walk-table-requires
     (λ c. search needs)
     (λ c. search needs)
     returns-4)

@@ -12,7 +12,10 @@ use Rattle.general.specs.Runs.{Writing, begun, turned-front, written-front}
 use Rattle.theory.specs.Formula.{holds}
 use Rattle.theory.specs.Search.{onlyConstant, choiceOf}
 use Rattle.theory.specs.State.{State}
-use Rattle.state.specs.State.{stateOf}
+use Rattle.state.proofs.Values.{stateOf-inside}
+use Rattle.literal.specs.Literal.{literalAt}
+use Rattle.tally.specs.Tally.{tallyOf, stateIn, valueIn}
+use denote.Ref.{now}
 use Rattle.search.proofs.write_choice.Statement.{statement}
 use Rattle.search.proofs.write_choice.Tie as tie
 
@@ -31,10 +34,21 @@ at n s i h = sym (
     )
 
 abbrev Inv-loop : tie.InvT-loop
-Inv-loop plan₀ n state i₀ new i = Writing 0 n (plan n (stateOf (state .values))) plan₀ new i
+Inv-loop plan₀ n state i₀ new i = Writing 0 n (plan n (stateIn state)) plan₀ new i
 
 abbrev μ-loop : tie.MeasureT-loop
 μ-loop plan₀ n state i₀ new i = n - i
+
+loop-again : tie.Need-loop-again Inv-loop μ-loop
+loop-again c =
+    let v = c .before .before in
+    let l = v .before .before in
+    let a = l .before .before .args in
+    let h = v .before .loop-test .taken in
+    let e : literalAt (valueIn (now (a .state)) (l .loop .i + 1)) ≡ stateIn (now (a .state)) (l .loop .i + 1) =
+    sym (stateOf-inside (tallyOf (now (a .state)) .values) (l .loop .i + 1) (omega (arith, h, l .before .before .pre .1))) in
+    turned-front _ _ _ (long _ _) _ _ (l .loop .inv) (l .before .before .pre .0) h (c .chosen .result) 0
+    (c .chosen .ensures ∙ ap (λ x. bit (holds onlyConstant x)) (c .before .of-code .ensures ∙ ap literalAt (v .value-of .ensures) ∙ e) ∙ at (a .n) (stateIn (now (a .state))) (l .loop .i) h)
 
 pub write-choice-spec : {M : Type 1} → statement M
 write-choice-spec =
@@ -44,17 +58,12 @@ write-choice-spec =
     μ-loop
     (λ c. begun _ _ _ _)
     (λ c. search needs)
-    (λ c. search needs)
     (λ c κs. search needs)
     (λ c κs. search needs)
+    (λ c κs. search needs)
     (λ c. search needs)
     (λ c. search needs)
     (λ c. search needs)
-    (λ c.
-    let l = c .before .before .before .before .before in
-    let a = l .before .before .args in
-    let h = c .before .before .before .before .loop-test .taken in
-    turned-front _ _ _ (long _ _) _ _ (l .loop .inv) (l .before .before .pre .0) h (c .chosen .result) 0
-    (c .chosen .ensures ∙ ap (λ x. bit (holds onlyConstant x)) (c .before .root .ensures) ∙ at (a .n) (stateOf (a .t3 .values)) (l .loop .i) h))
+    loop-again
     (λ c. search needs)
     (λ c. written-front _ _ _ (long _ _) _ _ (c .before .loop .inv) (c .loop-test .left)))

@@ -1,0 +1,32 @@
+-- `branches_on` meets its contract.
+use mathlib.Core.Path.{sym, _∙_}
+use borrow.Author.Needs.{needs}
+use native.Mathlib.Omega.{arith}
+use Rattle.search.proofs.Branches.{not-root, stands-in, at-root}
+use Rattle.search.proofs.branches_on.Statement.{statement}
+use Rattle.search.proofs.branches_on.Tie as tie
+use Rattle.search.proofs.branches_on.Reads as reads
+use Rattle.search.proofs.branches_on.Lts as lts
+use Rattle.gather.proofs.stands_live.Reads as stands-live-reads
+use Rattle.tally.proofs.value_of.Reads as value-of-reads
+
+returns : tie.Need-returns
+returns c = not-root (c .before .before .pre) (λ e. c .if1 .taken (c .before .value-of .ensures ∙ e))
+
+stands-live-requires : tie.Need-stands-live-requires
+stands-live-requires c κs = at-root (c .before .before .pre) (sym (c .before .value-of .ensures) ∙ c .if1 .left)
+
+returns-2 : tie.Need-returns-2
+returns-2 c = stands-in (c .before .before .before .pre) (c .stands-live .result) (c .stands-live .ensures)
+
+pub branches-on-spec : {M : Type 1} → statement M
+branches-on-spec =
+    tie.close
+    (tie.spec
+    (λ c κs. omega (arith, c .pre .inside))
+    (λ c. search needs)
+    (λ c. omega (arith, c .before .pre .inside))
+    returns
+    (λ c. search needs)
+    stands-live-requires
+    returns-2)
