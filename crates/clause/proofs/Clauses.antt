@@ -1,7 +1,7 @@
 -- A loop over the clauses of a table: from the clause at an index to the next one.
 use mathlib.Core.Path.{_≡_, refl, ap}
 use mathlib.Core.Bool.{true, false}
-use mathlib.Core.List.{List, [], _∷_, map}
+use mathlib.Core.List.{List, [], _∷_, map, List·Memᴰ, List·Memᴰ·tail}
 use Prim.Native.Nat.{ℕ, zero, suc, _+_, _<_, _≤_}
 use native.Mathlib.Omega.{arith}
 use lib.Dec.{eqb·suc-zero}
@@ -11,7 +11,7 @@ use lib.Seq.{drop-drop}
 use Rattle.general.specs.Booleans.{true-not-false}
 use Rattle.literal.specs.declared.Literal.{Literal}
 use Rattle.literal.specs.declared.Literal.the-variants.{Pos, Neg}
-use Rattle.theory.specs.Formula.{clauses, push}
+use Rattle.theory.specs.Formula.{Clause, Formula, clauses, push}
 use Rattle.theory.specs.State.{standing}
 use Rattle.theory.specs.Table.{endsOpen}
 use Rattle.state.specs.State.{stateOf}
@@ -49,6 +49,7 @@ front (x ∷ t) h e = front-in (x ∷ t) e
 
 -- the step from the clause at an index to the next one
 pub record Advances (t : List ℤ) (from next : ℕ) : Type 0 where
+  pub written : clauses (drop from t) ≡ group (drop from t) ∷ clauses (drop next t)
   pub first : (v : List ℕ) → clausesFrom t v from ≡ clauseAt t v from ∷ clausesFrom t v next
   pub begins : Begins t next
   pub further : from < next
@@ -57,10 +58,43 @@ pub advances : {t : List ℤ} {from next : ℕ} → Begins t from → from < len
 advances {t} {from} {next} b h e =
     let f : Front (drop from t) (drop next t) = rw (e, ← drop-drop (groupLength (drop from t)) from t) (front (drop from t) (omega (arith, length-drop from t)) (b .closed)) in
     record {
+      written = f .first;
       first = λ v. ap (map (standing (stateOf v))) (f .first);
       begins = record { inside = omega (arith, f .inside, length-drop from t); closed = f .closed };
       further = omega (arith, f .some-elements);
     }
+
+-- a clause after the one at an index is a clause of the table
+abbrev after-first : Formula → Formula
+after-first [] = []
+after-first (c ∷ f) = f
+
+module _ {h : Clause} where
+  in-first : (f : Formula) → List·Memᴰ h (after-first f) → List·Memᴰ h f
+  in-first [] m = m
+  in-first (c ∷ f) m = List·Memᴰ·tail m
+
+  in-pushed : (l : Literal) (f : Formula) → List·Memᴰ h (after-first f) → List·Memᴰ h (after-first (push l f))
+  in-pushed l [] m = m
+  in-pushed l (c ∷ f) m = m
+
+  in-rest : (t : List ℤ) → List·Memᴰ h (clauses (drop (groupLength t) t)) → List·Memᴰ h (after-first (clauses t))
+  unfolding clauses groupLength
+  in-rest [] m = m
+  in-rest (posℤ zero ∷ t) m = m
+  in-rest (posℤ (suc p) ∷ t) m = in-pushed (Pos (suc p)) (clauses t) (in-rest t m)
+  in-rest (negsuc p ∷ t) m = in-pushed (Neg (suc p)) (clauses t) (in-rest t m)
+
+  in-whole : (i : ℕ) (t : List ℤ) → List·Memᴰ h (after-first (clauses (drop i t))) → List·Memᴰ h (after-first (clauses t))
+  unfolding clauses
+  in-whole zero t m = m
+  in-whole (suc i) [] m = m
+  in-whole (suc i) (posℤ zero ∷ t) m = in-first (clauses t) (in-whole i t m)
+  in-whole (suc i) (posℤ (suc p) ∷ t) m = in-pushed (Pos (suc p)) (clauses t) (in-whole i t m)
+  in-whole (suc i) (negsuc p ∷ t) m = in-pushed (Neg (suc p)) (clauses t) (in-whole i t m)
+
+  pub later-clause : (t : List ℤ) (i : ℕ) → List·Memᴰ h (clauses (drop (i + groupLength (drop i t)) t)) → List·Memᴰ h (clauses t)
+  later-clause t i m = in-first (clauses t) (in-whole i t (in-rest (drop i t) (rw (← drop-drop (groupLength (drop i t)) i t) at m)))
 
 pub begins-first : {t : List ℤ} → Readable t → Begins t 0
 begins-first r = record { inside = omega arith; closed = r .closed }

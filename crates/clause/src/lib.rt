@@ -6,7 +6,7 @@ ghost use Rattle.literal.specs.Literal.{var, maxVariables};
 ghost use Rattle.theory.specs.Formula.{Clause};
 ghost use Rattle.theory.specs.Rules.{occurs, differ, live};
 ghost use Rattle.clause.specs.Reading.{Ready, groupLength, clauseAt, NextOf, CountsOf};
-ghost use Rattle.clause.specs.Finding.{passes, FirstThat};
+ghost use Rattle.clause.specs.Finding.{shares, passes, FirstThat};
 use literal::Literal;
 
 // The next literal that stands in a clause, and the index after it.
@@ -16,7 +16,8 @@ pub enum Next {
 }
 
 // What is looked for in a clause beside the counts of one, the same or another: an open literal, one that stands twice there, one that stands there,
-// one whose opposite does, one of another variable than a given one, and one that is of another variable and whose opposite stands there.
+// one whose opposite does, one of another variable than a given one, one that is of another variable and whose opposite stands there, and one that
+// is of another variable and stands there itself or by its opposite.
 pub enum Test {
     Open,
     Twice,
@@ -24,6 +25,7 @@ pub enum Test {
     Opposed,
     Apart(Literal),
     Partner(Literal),
+    Shared(Literal),
 }
 
 pub enum Found {
@@ -117,6 +119,17 @@ pub fn differ(x: Literal, y: Literal) -> bool
     x.variable().0 != y.variable().0
 }
 
+// Whether a literal stands in the clause that was counted, itself or by its opposite.
+fn shared(counts: &[u16; Literal::CODES], x: Literal) -> bool
+    requires { ⌜ var x ≤ maxVariables ⌝ }
+    ensures { λ r. ⌜ ((c : Clause) → CountsOf (now (counts .entry)) c → r ≡ shares c x) ⌝ }
+{
+    if 0 < counted(counts, x) {
+        return true;
+    }
+    0 < counted(counts, x.opposite())
+}
+
 pub fn passes(test: Test, counts: &[u16; Literal::CODES], x: Literal) -> bool
     requires { ⌜ var x ≤ maxVariables ⌝ }
     ensures { λ r. ⌜ ((c : Clause) → CountsOf (now (counts .entry)) c → r ≡ passes test c x) ⌝ }
@@ -129,6 +142,13 @@ pub fn passes(test: Test, counts: &[u16; Literal::CODES], x: Literal) -> bool
         Test::Apart(y) => differ(y, x),
         Test::Partner(y) => {
             if 0 < counted(counts, x.opposite()) {
+                differ(y, x)
+            } else {
+                false
+            }
+        }
+        Test::Shared(y) => {
+            if shared(counts, x) {
                 differ(y, x)
             } else {
                 false

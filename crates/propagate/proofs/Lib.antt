@@ -1,2 +1,4 @@
 pub mod Scanning
+pub mod Partners
+pub mod Keeping
 pub mod Settling

@@ -1,5 +1,5 @@
 -- A rule over the clauses of a table, and over its pairs: the clause at an index, and else the later ones.
-use mathlib.Core.Path.{_≡_, refl, sym}
+use mathlib.Core.Path.{_≡_, refl}
 use mathlib.Core.Bool.{false}
 use mathlib.Core.List.{List, [], _∷_}
 use mathlib.Core.Option.{Option, none, some, orElse}
@@ -17,6 +17,7 @@ use Rattle.clause.proofs.Clauses.{Advances, none-left}
 use Rattle.rules.specs.declared.PairRule.{PairRule}
 use Rattle.rules.specs.Rules.{pairRule}
 use Rattle.rules.proofs.Pairs.{pair-live}
+use Rattle.propagate.specs.Partners.{nextOf, firstPartner}
 
 module _ (rule : Clause → Option Step) (v : List ℕ) (k : ℕ) where
   module _ {t : List ℤ} {from next : ℕ} (a : Advances t from next) where
@@ -34,31 +35,25 @@ module _ (rule : Clause → Option Step) (v : List ℕ) (k : ℕ) where
 
 module _ (rule : PairRule) where
   -- no pair of a clause that is not live
-  no-partner : (g : Clause) → live g ≡ false → (k : ℕ) (l : List Clause) → firstClause (pairRule rule g) k l ≡ none
+  pub no-partner : (g : Clause) → live g ≡ false → (k : ℕ) (l : List Clause) → firstClause (pairRule rule g) k l ≡ none
   unfolding firstClause orElse
   no-partner g e k [] = refl
   no-partner g e k (h ∷ l) = rw (pair-live rule g h, e) (no-partner g e (suc k) l)
 
   module _ (v : List ℕ) (k : ℕ) where
-    module _ {t : List ℤ} {from next : ℕ} (a : Advances t from next) where
-      -- what the later clauses are asked with the one at `from`
-      abbrev partners : Option Asked
-      partners = firstClause (pairRule rule (clauseAt t v from)) (k + 1) (clausesFrom t v next)
-
-      by-first : orElse partners (firstPair (pairRule rule) (k + 1) (clausesFrom t v next)) ≡ firstPair (pairRule rule) k (clausesFrom t v from)
+    module _ {t : List ℤ} {from : ℕ} (a : Advances t from (nextOf t from)) where
+      by-first : orElse (firstPartner t v rule k from) (firstPair (pairRule rule) (k + 1) (clausesFrom t v (nextOf t from))) ≡ firstPair (pairRule rule) k (clausesFrom t v from)
       unfolding firstPair
       by-first = rw (a .first v, add-one)
 
-      pub pair-asks : {s : Asked} → some s ≡ partners → some s ≡ firstPair (pairRule rule) k (clausesFrom t v from)
+      pub pair-asks : {s : Asked} → some s ≡ firstPartner t v rule k from → some s ≡ firstPair (pairRule rule) k (clausesFrom t v from)
       unfolding orElse
       pair-asks e = rw (← e) at by-first
 
-      pub pair-passes : none ≡ partners → firstPair (pairRule rule) (k + 1) (clausesFrom t v next) ≡ firstPair (pairRule rule) k (clausesFrom t v from)
+      pub pair-passes : none ≡ firstPartner t v rule k from →
+          firstPair (pairRule rule) (k + 1) (clausesFrom t v (nextOf t from)) ≡ firstPair (pairRule rule) k (clausesFrom t v from)
       unfolding orElse
       pair-passes e = rw (← e) at by-first
-
-      pub pair-dead : live (clauseAt t v from) ≡ false → none ≡ partners
-      pair-dead e = sym (no-partner (clauseAt t v from) e (k + 1) (clausesFrom t v next))
 
     pub pair-end : (t : List ℤ) (from : ℕ) → length t ≤ from → none ≡ firstPair (pairRule rule) k (clausesFrom t v from)
     unfolding firstPair

@@ -19,6 +19,7 @@ pub record Turn (n : ℕ) (f : Formula) (s : State) (x t : Literal) : Type 0 whe
   pub same-end : settle n f (assign x t s) ≡ settle n f s
   pub well : WellFormed n (assign x t s)
   pub fewer : opens (assign x t s) n < opens s n
+  pub x-open : 0 < var x
   pub x-inside : var x ≤ n
   pub t-inside : var t ≤ n
 
@@ -43,6 +44,7 @@ module _ (n : ℕ) (f : Formula) (s : State) where
           same-end = rw (← asked, e) (propagate-fuel within (suc n) n _ (asked-well within w q) (omega (arith, less, opens-bound s n)) (omega (arith, less, opens-bound s n)));
           well = asked-well within w q;
           fewer = omega (arith, less);
+          x-open = omega (arith, v .lower);
           x-inside = v .inside;
           t-inside = omega (arith, v .inside, v .lower);
         }

@@ -11,7 +11,7 @@ use Rattle.state.specs.State.{stateOf}
 use Rattle.clause.specs.Reading.{clausesFrom}
 use Rattle.rules.specs.declared.PairRule.{PairRule}
 use Rattle.rules.specs.declared.Rule.{Rule}
-use Rattle.rules.specs.Rules.{pairRule, ruleAt}
+use Rattle.rules.specs.Rules.{pairRule, ruleOf}
 use Rattle.propagate.specs.declared.Answer.{Answer}
 use Rattle.propagate.specs.declared.Answer.the-variants.{Nothing, Asks}
 use Rattle.propagate.specs.declared.Settled.{Settled}
@@ -22,7 +22,7 @@ answer (Asks a) = some a
 
 -- what a rule asks of the clauses from an index on, of which the first has number k, and of the pairs of all clauses
 abbrev pub firstFrom : List ℤ → List ℕ → Rule → ℕ → ℕ → Option Asked
-firstFrom t v rule k i = firstClause (ruleAt t v rule) k (clausesFrom t v i)
+firstFrom t v rule k i = firstClause (ruleOf rule) k (clausesFrom t v i)
 
 abbrev pub firstOfPairs : List ℤ → List ℕ → PairRule → Option Asked
 firstOfPairs t v rule = firstPair (pairRule rule) 1 (clausesFrom t v 0)

@@ -1,19 +1,20 @@
 -- Rules 1 to 8 as code names them, and what they ask.
 use mathlib.Core.Path.{_≡_}
-use mathlib.Core.Bool.{Bool, not, _&&_}
-use mathlib.Core.List.{List}
+use mathlib.Core.Bool.{Bool, false, not, _&&_}
+use mathlib.Core.List.{List, List·Memᴰ}
+use mathlib.Core.Logic.{_⊎_, _≢_}
 use mathlib.Core.Option.{Option, none, some, Option·map, bind}
-use Prim.Native.Nat.{ℕ}
+use Prim.Native.Nat.{ℕ, _<_}
 use lib.Dec.{eqb}
 use lib.IntN.{ℤ}
 use Rattle.general.specs.Search.{find}
 use Rattle.literal.specs.declared.Literal.{Literal}
-use Rattle.literal.specs.Literal.{TRUE}
+use Rattle.literal.specs.Literal.{TRUE, var}
 use Rattle.theory.specs.declared.Step.{Step}
 use Rattle.theory.specs.Formula.{Clause}
 use Rattle.theory.specs.Rules.{occurs, when, tie, becomesFalse, isNone, partner, rule1, rule2, rule3, rule4, rule5, rule6, rule7, rule8}
 use Rattle.clause.specs.declared.Test.{Test}
-use Rattle.clause.specs.declared.Test.the-variants.{Common, Opposed}
+use Rattle.clause.specs.declared.Test.the-variants.{Common, Opposed, Partner, Shared}
 use Rattle.clause.specs.declared.Found.{Found}
 use Rattle.clause.specs.Reading.{clauseAt, CountsOf}
 use Rattle.clause.specs.Finding.{found, passes}
@@ -22,7 +23,7 @@ use Rattle.rules.specs.declared.Fit.the-variants.{Nothing, Asks}
 use Rattle.rules.specs.declared.PairRule.{PairRule}
 use Rattle.rules.specs.declared.PairRule.the-variants.{Seven, Eight}
 use Rattle.rules.specs.declared.Rule.{Rule}
-use Rattle.rules.specs.declared.Rule.the-variants.{One, Two, Three, Four, Five, Six, Pair}
+use Rattle.rules.specs.declared.Rule.the-variants.{One, Two, Three, Four, Five, Six}
 
 abbrev pub fit : Fit → Option Step
 fit Nothing = none
@@ -32,19 +33,20 @@ abbrev pub pairRule : PairRule → Clause → Clause → Option Step
 pairRule Seven = rule7
 pairRule Eight = rule8
 
--- in a table and a state; a pair's earlier clause begins at an index
-abbrev pub ruleAt : List ℤ → List ℕ → Rule → Clause → Option Step
-ruleAt t v One = rule1
-ruleAt t v Two = rule2
-ruleAt t v Three = rule3
-ruleAt t v Four = rule4
-ruleAt t v Five = rule5
-ruleAt t v Six = rule6
-ruleAt t v (Pair p g) = pairRule p (clauseAt t v g)
+abbrev pub ruleOf : Rule → Clause → Option Step
+ruleOf One = rule1
+ruleOf Two = rule2
+ruleOf Three = rule3
+ruleOf Four = rule4
+ruleOf Five = rule5
+ruleOf Six = rule6
 
--- of the clause that begins at an index
+-- of the clause that begins at an index, and of two
 abbrev pub asksAt : List ℤ → List ℕ → Rule → ℕ → Option Step
-asksAt t v rule i = ruleAt t v rule (clauseAt t v i)
+asksAt t v rule i = ruleOf rule (clauseAt t v i)
+
+abbrev pub asksPair : List ℤ → List ℕ → PairRule → ℕ → ℕ → Option Step
+asksPair t v rule g h = pairRule rule (clauseAt t v g) (clauseAt t v h)
 
 -- rules 2 and 4: where n are true, the first literal that passes becomes false
 abbrev pub falseWhere : ℕ → Test → Clause → Option Step
@@ -68,3 +70,20 @@ Paired test k g r = (h : Clause) → CountsOf k h → found r ≡ paired test g 
 
 abbrev pub PairStep : PairRule → List ℕ → Clause → Fit → Type 0
 PairStep rule k g r = (h : Clause) → CountsOf k h → fit r ≡ pairStep rule g h
+
+-- what h holds of g beside x, whose opposite stands in g: rule 7 wants another literal or its opposite, rule 8 a second opposite
+abbrev pub another : PairRule → Literal → Test
+another Seven x = Shared x
+another Eight x = Partner x
+
+-- that the rule may fit is no promise; that it may not is one
+abbrev pub MayFit : PairRule → List ℕ → Clause → Bool → Type 0
+MayFit rule k h r = (g : Clause) → CountsOf k g → r ≡ false → pairStep rule g h ≡ none
+
+-- no open literal of y's variable stands in a clause
+abbrev pub Without : Literal → Clause → Type 0
+Without y d = (l : Literal) → List·Memᴰ l d → 0 < var l → var l ≢ var y
+
+-- one side of a step x := t: t, or x where it is a tie
+abbrev pub Side : Literal → Literal → Literal → Type 0
+Side x t y = (y ≡ t) ⊎ ((y ≡ x) × (0 < var t))

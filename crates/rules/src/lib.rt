@@ -1,10 +1,9 @@
 // What the rules of document 01 ask: rules 1 to 6 of one clause as it stands, rules 7 and 8 of two.
 ghost use mathlib.Core.Path.{_≡_};
 ghost use Rattle.theory.specs.Rules.{tie, becomesFalse, rule1, rule3, rule5, rule6};
-ghost use Rattle.clause.specs.Reading.{Ready, clauseAt};
+ghost use Rattle.clause.specs.Reading.{Ready, clauseAt, CountsOf};
 ghost use Rattle.clause.specs.Finding.{found};
-ghost use Rattle.rules.specs.declared.Rule.the-variants.{Pair};
-ghost use Rattle.rules.specs.Rules.{fit, asksAt, falseWhere, Paired, PairStep};
+ghost use Rattle.rules.specs.Rules.{fit, asksAt, asksPair, falseWhere, Paired, PairStep, another, MayFit};
 use clause::Found;
 use clause::Next;
 use clause::Test;
@@ -17,7 +16,7 @@ pub enum PairRule {
     Eight,
 }
 
-// A rule that looks at one clause: rules 1 to 6, and rules 7 and 8 where the index of the earlier clause is given.
+// Rules 1 to 6 look at one clause.
 pub enum Rule {
     One,
     Two,
@@ -25,7 +24,6 @@ pub enum Rule {
     Four,
     Five,
     Six,
-    Pair(PairRule, usize),
 }
 
 // Whether a rule fits, and what it asks.
@@ -207,17 +205,54 @@ fn pair_step(
     }
 }
 
-// Rules 7 and 8 look at live clauses.
-fn pair_rule(
+// What a clause holds of another, beside x whose opposite stands there: rule 7 wants another literal or its opposite, rule 8 a second opposite.
+fn another(rule: PairRule, x: Literal) -> Test
+    ensures { λ r. ⌜ r ≡ another rule x ⌝ }
+{
+    match rule {
+        PairRule::Seven => Test::Shared(x),
+        PairRule::Eight => Test::Partner(x),
+    }
+}
+
+// Whether rule 7 or 8 may fit a counted clause and the one at h: a quick look, which says no of most pairs.
+pub fn may_fit(
+    table: &[i16],
+    values: &[u16; Literal::VARIABLES],
+    rule: PairRule,
+    h: usize,
+    counts: &[u16; Literal::CODES],
+) -> bool
+    requires { ⌜ Ready (now table) (now values) ⌝ }
+    ensures { λ r. ⌜ MayFit rule (now (counts .entry)) (clauseAt (now (table .entry)) (now (values .entry)) h) r ⌝ }
+{
+    let crossing = clause::first_that(table, values, h, counts, Test::Opposed);
+    let Found::At(x) = crossing else {
+        return false;
+    };
+    let second = clause::first_that(table, values, h, counts, another(rule, x));
+    match second {
+        Found::Nothing => false,
+        Found::At(_) => true,
+    }
+}
+
+// What rule 7 or 8 asks of the clauses at g, which is counted, and h. Both rules look at live clauses.
+pub fn asks_pair(
     table: &[i16],
     values: &[u16; Literal::VARIABLES],
     rule: PairRule,
     g: usize,
+    counted: &[u16; Literal::CODES],
     h: usize,
 ) -> Fit
     requires { ⌜ Ready (now table) (now values) ⌝ }
-    ensures { λ r. ⌜ fit r ≡ asksAt (now (table .entry)) (now (values .entry)) (Pair rule g) h ⌝ }
+    requires { ⌜ CountsOf (now counted) (clauseAt (now table) (now values) g) ⌝ }
+    ensures { λ r. ⌜ fit r ≡ asksPair (now (table .entry)) (now (values .entry)) rule g h ⌝ }
 {
+    if !may_fit(table, values, rule, h, counted) {
+        return Fit::Nothing;
+    }
     let counts = clause::counts_at(table, values, h);
     let asked = pair_step(table, values, rule, g, &counts);
     let Fit::Asks(_) = asked else {
@@ -243,6 +278,5 @@ pub fn asks(table: &[i16], values: &[u16; Literal::VARIABLES], rule: Rule, from:
         Rule::Four => false_where(table, values, from, 0, Test::Twice),
         Rule::Five => rule_5(table, values, from),
         Rule::Six => rule_6(table, values, from),
-        Rule::Pair(pair, g) => pair_rule(table, values, pair, g, from),
     }
 }

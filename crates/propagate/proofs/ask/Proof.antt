@@ -8,23 +8,25 @@ use Rattle.propagate.proofs.ask.Tie as tie
 returns : tie.Need-returns
 unfolding ask
 returns c =
-    let seven = c .before in
-    let six = seven .before in
+    let seven = c .before .before in
+    let six = seven .before .before in
     let five = six .before in
     let four = five .before in
     let three = four .before in
-    let two = three .before in
-    rw (
-      c .else-pair2 .ensures,
-      seven .else-pair .ensures,
-      six .else-clause5 .ensures,
-      five .else-clause4 .ensures,
-      four .else-clause3 .ensures,
-      three .else-clause2 .ensures,
-      two .else-clause .ensures,
-      two .before .first-clause .ensures,
+    let two = three .before in (
+      rw (
+        c .else-pair2 .ensures .0,
+        seven .else-pair .ensures .0,
+        six .else-clause5 .ensures,
+        five .else-clause4 .ensures,
+        four .else-clause3 .ensures,
+        three .else-clause2 .ensures,
+        two .else-clause .ensures,
+        two .before .first-clause .ensures,
+      )
+          (simp orElse-assoc),
+      (seven .else-pair .ensures .1, c .else-pair2 .ensures .1),
     )
-    (simp orElse-assoc)
 
 pub ask-spec : {M : Type 1} → statement M
 ask-spec =

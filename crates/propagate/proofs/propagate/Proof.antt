@@ -1,4 +1,4 @@
--- `propagate` meets its contract: settling from the state of each turn ends where settling from the first does.
+-- `propagate` meets its contract: settling from the state of each turn ends where settling from the first does, and what is noted holds in that state.
 use mathlib.Core.Path.{_≡_, refl, _∙_}
 use native.Mathlib.Omega.{arith}
 use borrow.Author.Needs.{needs}
@@ -7,42 +7,69 @@ use Rattle.theory.specs.State.{opens, WellFormed}
 use Rattle.theory.specs.Propagation.{settle}
 use Rattle.state.specs.State.{stateOf}
 use Rattle.clause.specs.Reading.{Ready}
+use Rattle.rules.specs.declared.PairRule.the-variants.{Seven, Eight}
+use Rattle.propagate.specs.Partners.{Noted}
+use Rattle.propagate.proofs.Partners.{noted-none}
 use Rattle.propagate.proofs.Settling.{Turn, settle-rest, settle-dead, settle-more}
 use Rattle.propagate.proofs.propagate.Statement.{statement}
 use Rattle.propagate.proofs.propagate.Tie as tie
 
 abbrev Inv-loop : tie.InvT-loop
-Inv-loop table n s₀ s =
+Inv-loop table n s₀ alone7₀ alone8₀ s alone7 alone8 =
     Ready table (s .values)
     × WellFormed n (stateOf (s .values))
     × (settle n (clauses table) (stateOf (s .values)) ≡ settle n (clauses table) (stateOf (s₀ .values)))
+    × Noted table (s .values) Seven alone7
+    × Noted table (s .values) Eight alone8
 
 abbrev μ-loop : tie.MeasureT-loop
-μ-loop table n s₀ s = opens (stateOf (s .values)) n
+μ-loop table n s₀ alone7₀ alone8₀ s alone7 alone8 = opens (stateOf (s .values)) n
 
 returns : tie.Need-returns Inv-loop μ-loop
 returns c =
     let k = c .before .before in
-    let l = k .before .before .before in
-    (settle-rest _ _ _ (rw (c .enum-told .given .1) at (k .ask .ensures)) ∙ l .loop .inv .2, l .loop .inv .0 .range)
+    let l = k .before .before .before .before .before in
+    (settle-rest _ _ _ (rw (c .enum-told .given .1) at (k .ask .ensures .0)) ∙ l .loop .inv .2, l .loop .inv .0 .range)
 
 returns-2 : tie.Need-returns-2 Inv-loop μ-loop
 returns-2 c =
     let r = c .before .before .before in
     let k = r .before .before in
-    let l = k .before .before .before in
-    (settle-dead _ _ _ (r .answer .given .0 .0) (rw (r .answer .given .1) at (k .ask .ensures)) (c .enum-told2 .given .1) ∙ l .loop .inv .2, l .loop .inv .0 .range)
+    let l = k .before .before .before .before .before in
+    (settle-dead _ _ _ (r .answer .given .0 .0) (rw (r .answer .given .1) at (k .ask .ensures .0)) (c .enum-told2 .given .1) ∙ l .loop .inv .2, l .loop .inv .0 .range)
 
 -- the step that is asked
 turn : (c : tie.After-known-told2 Inv-loop μ-loop) →
-    let l = c .before .before .before .before .before .before .before .before .before in
+    let l = c .before .before .before .before .before .before .before .before .before .before .before in
     let a = l .before .args in
     Turn (a .n) (clauses (a .table .now)) (stateOf (l .loop .s .values)) (c .before .asks .given .0 .0) (c .before .asks .given .0 .1 .0)
 turn c =
     let r = c .before .before .before .before in
     let k = r .before .before in
-    let l = k .before .before .before in
-    settle-more _ _ _ (r .answer .given .0 .0) (rw (r .answer .given .1) at (k .ask .ensures)) (c .before .asks .given .1) (l .before .pre .1 .0) (l .loop .inv .1)
+    let l = k .before .before .before .before .before in
+    settle-more _ _ _ (r .answer .given .0 .0) (rw (r .answer .given .1) at (k .ask .ensures .0)) (c .before .asks .given .1) (l .before .pre .1 .0) (l .loop .inv .1)
+
+-- the state after it
+ready : (c : tie.After-assign Inv-loop μ-loop) →
+    let l = c .before .before .before .before .before .before .before .before .before .before .before .before in
+    Ready (l .before .args .table .now) (c .assign .result .values)
+ready c =
+    let l = c .before .before .before .before .before .before .before .before .before .before .before .before in
+    record { readable = l .loop .inv .0 .readable; range = c .assign .ensures .1 }
+
+loop-again : tie.Need-loop-again Inv-loop μ-loop
+loop-again c =
+    let first = c .before .before .before .before .before .before in
+    let a = first .before .before .before .before .before .before in
+    let k = a .before .before .before .before .before .before .before in
+    let l = k .before .before .before .before .before in
+    let step = turn (a .before) in (
+      ready a,
+      rw (a .assign .ensures .0) (step .well),
+      rw (a .assign .ensures .0) (step .same-end) ∙ l .loop .inv .2,
+      first .look-again .ensures (step .x-open) (a .assign .ensures .0),
+      c .look-again2 .ensures (step .x-open) (a .assign .ensures .0),
+    )
 
 pub propagate-spec : {M : Type 1} → statement M
 propagate-spec =
@@ -50,8 +77,8 @@ propagate-spec =
     (tie.spec
     Inv-loop
     μ-loop
-    (λ c. (c .pre .0, c .pre .1 .1 .0, refl))
-    (λ c κs. c .before .before .loop .inv .0)
+    (λ c. (c .pre .0, c .pre .1 .1 .0, refl, noted-none _ _ _, noted-none _ _ _))
+    (λ c κs. let l = c .before .before .before .before in (l .loop .inv .0, (l .loop .inv .3, l .loop .inv .4)))
     (λ c. search needs)
     (λ c. search needs)
     returns
@@ -59,12 +86,17 @@ propagate-spec =
     (λ c. search needs)
     returns-2
     (λ c κs.
-    let l = c .before .before .before .before .before .before .before .before .before in
+    let l = c .before .before .before .before .before .before .before .before .before .before .before in
     (omega (arith, turn c .x-inside, l .before .pre .1 .1 .1), (omega (arith, turn c .t-inside, l .before .pre .1 .1 .1), l .loop .inv .0 .range)))
-    (λ c. rw (c .assign .ensures .0) (turn (c .before) .fewer))
+    (λ c κs.
+    let a = c .before .before .before .before .before in
+    let k = a .before .before .before .before .before .before .before in
+    (k .before .before .before .before .before .loop .inv .0, (ready a, k .ask .ensures .1 .0)))
+    (λ c κs.
+    let a = c .before .before .before .before .before .before .before .before .before .before .before in
+    let k = a .before .before .before .before .before .before .before in
+    (k .before .before .before .before .before .loop .inv .0, (ready a, k .ask .ensures .1 .1)))
     (λ c.
-    let l = c .before .before .before .before .before .before .before .before .before .before in (
-      record { readable = l .loop .inv .0 .readable; range = c .assign .ensures .1 },
-      rw (c .assign .ensures .0) (turn (c .before) .well),
-      rw (c .assign .ensures .0) (turn (c .before) .same-end) ∙ l .loop .inv .2,
-    )))
+    let a = c .before .before .before .before .before .before .before .before .before .before .before .before in
+    rw (a .assign .ensures .0) (turn (a .before) .fewer))
+    loop-again)
