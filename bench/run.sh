@@ -1,8 +1,86 @@
 #!/usr/bin/env bash
-# Builds the window's archive for release and times it on strips: bench/run.sh ALLOWANCE STRIP...
+# The benchmark, in one command. Ratios in one run mean something, absolute times don't, and no time is a test.
+#
+#     bench/run.sh [OPTION...] [STRIP...]   compares random filings, then measures the filings of bench/filings.py, or the strips given, and prints the table;
+#                                           without strips it also writes docs/speed.svg
+#     bench/run.sh --growth [OPTION...]     how cost grows with placements, groups and entries
+#     bench/run.sh --stack                  the least stack, in KB, on which the layout program walks its deepest tree
+#     bench/run.sh --compare [WORD...]      only compares, WORDs as bench/compare.cpp says
+#
+# OPTIONs (bench/table.py): --allowance N, --seconds S for the library on one filing, --limit S for a whole run, --reference PROGRAM (or REFERENCE in the environment).
 set -eu
+caller=$PWD
+export PYTHONDONTWRITEBYTECODE=1
 cd "$(dirname "$0")/.."
-rt staticlib window >/dev/null
-mkdir -p target/host
-gcc -std=c11 -D_POSIX_C_SOURCE=200809L -O3 -Wall -Wextra -Iinclude -Itests bench/bench.c target/staticlib/libwindow.a -o target/host/bench
-target/host/bench "$@"
+
+need() { # command, Debian package
+    command -v "$1" >/dev/null && return
+    { [ "$(id -u)" -eq 0 ] && { apt-get install -y -qq "$2" || { apt-get update -qq && apt-get install -y -qq "$2"; }; } >/dev/null 2>&1; } ||
+        { echo "bench/run.sh: '$1' is missing and could not be installed; install the Debian package '$2'" >&2; exit 1; }
+}
+
+build() {
+    need g++ g++
+    need python3 python3
+    rt check layout >target/bench/build.log 2>&1 || { cat target/bench/build.log; exit 1; }
+    rt staticlib window >target/bench/build.log 2>&1 || { cat target/bench/build.log; exit 1; }
+    local flags=(-std=c++17 -O3 -march=native -Wall -Wextra -Wno-psabi -Iinclude -Ibench) program
+    g++ "${flags[@]}" bench/own.cpp -o target/bench/own
+    for program in measure compare; do
+        g++ "${flags[@]}" "bench/$program.cpp" target/staticlib/libwindow.a -o "target/bench/$program"
+    done
+}
+
+mkdir -p target/bench
+build
+mode=table
+case ${1-} in
+--growth | --stack | --compare)
+    mode=${1#--}
+    shift
+    ;;
+esac
+
+# words that name files are the caller's
+words=()
+strips=0
+while [ $# -gt 0 ]; do
+    case $1 in
+    --reference)
+        words+=("$1" "$(cd "$caller" && realpath "$2")")
+        shift
+        ;;
+    --*=* | --named) words+=("$1") ;;
+    --*)
+        words+=("$1" "$2")
+        shift
+        ;;
+    *)
+        words+=("$(cd "$caller" && realpath "$1")")
+        strips=$((strips + 1))
+        ;;
+    esac
+    shift
+done
+
+case $mode in
+compare) target/bench/compare --most-splits "${MOST_SPLITS:-2000}" "${words[@]}" target/bin/layout ;;
+stack) bench/stack.sh ;;
+growth)
+    python3 bench/filings.py --growth target/bench/growth >target/bench/made
+    mapfile -t made <target/bench/made
+    python3 bench/table.py --growth --allowance 20000 "${words[@]}" "${made[@]}"
+    ;;
+table)
+    need minisat minisat
+    need cadical cadical
+    need clasp clasp
+    target/bench/compare --most-splits "${MOST_SPLITS:-2000}" target/bin/layout
+    if [ "$strips" -eq 0 ]; then
+        python3 bench/filings.py target/bench/filings >target/bench/made
+        mapfile -t made <target/bench/made
+        words+=(--picture docs/speed.svg "${made[@]}")
+    fi
+    python3 bench/table.py "${words[@]}"
+    ;;
+esac

@@ -1,0 +1,373 @@
+#!/usr/bin/env python3
+"""Makes the filings that are measured, each as a strip and as DIMACS text, always the same ones.
+
+    bench/filings.py FOLDER                 all filings of the table
+    bench/filings.py --growth FOLDER        the series for how cost grows
+    bench/filings.py --cnf STRIP FILE       the DIMACS text of one strip
+
+A filing is a number of placements and a list of groups of entries, +p or -p. Every placement stands in some group.
+"""
+import os
+import random
+import sys
+
+MOST_PLACEMENTS, MOST_GROUPS, MOST_ENTRIES = 256, 512, 2048
+
+
+# Strips and DIMACS text
+
+def strip(n, groups):
+    out = bytearray(b"P") + n.to_bytes(2, "big")
+    for group in groups:
+        out += b"G"
+        for e in group:
+            out += (b"T" if e > 0 else b"L") + abs(e).to_bytes(2, "big")
+        out += b"E"
+    return bytes(out + b"Z")
+
+
+def read_strip(data):
+    """A good strip without its checks."""
+    n, groups, i = 0, [], 0
+    while i < len(data):
+        mark, operand = chr(data[i]), int.from_bytes(data[i + 1:i + 3], "big")
+        if mark == "P":
+            n = operand
+        elif mark == "G":
+            groups.append([])
+        elif mark in "TL":
+            groups[-1].append(operand if mark == "T" else -operand)
+        i += 3 if mark in "PTL" else 2 if mark == "C" else 1
+    return n, groups
+
+
+def dimacs(n, groups):
+    """Each group one clause, and for each pair of its positions one of the two opposites: so an entry that stands twice is false, and one beside its opposite is no clash."""
+    clauses = []
+    for group in groups:
+        clauses.append(group)
+        for i, a in enumerate(group):
+            clauses.extend((-a, -b) for b in group[i + 1:])
+    lines = ["p cnf %d %d" % (n, len(clauses))]
+    lines += [" ".join(map(str, list(c) + [0])) for c in clauses]
+    return "\n".join(lines) + "\n"
+
+
+# Placements by name, counted in the order in which they are first asked for
+
+class Namer:
+    def __init__(self):
+        self.number = {}
+
+    def __call__(self, *name):
+        return self.number.setdefault(name, len(self.number) + 1)
+
+    def filing(self, groups):
+        return len(self.number), groups
+
+
+# Random filings
+
+def dealt(n, groups, size, negative, seed):
+    """Each placement stands about equally often, never twice in a group; a part of the entries is left out."""
+    r = random.Random(seed)
+    while True:
+        deck = [p for _ in range(groups * size // n + 1) for p in r.sample(range(1, n + 1), n)][:groups * size]
+        hands = [deck[i * size:i * size + size] for i in range(groups)]
+        if all(len(set(h)) == size for h in hands):
+            return n, [[-p if r.random() < negative else p for p in h] for h in hands]
+        for h in hands:  # a doubled card is changed with one of another hand
+            for i, p in enumerate(h):
+                while p in h[:i]:
+                    other = hands[r.randrange(groups)]
+                    j = r.randrange(size)
+                    if p not in other and other[j] not in h:
+                        h[i], other[j] = other[j], p
+                        p = h[i]
+        if all(len(set(h)) == size for h in hands):
+            return n, [[-p if r.random() < negative else p for p in h] for h in hands]
+
+
+def planted(n, groups, size, seed):
+    """Random groups with one of few placements each, so that taking these is a layout."""
+    r = random.Random(seed)
+    few = n // size
+    chosen, others = list(range(1, few + 1)), list(range(few + 1, n + 1))
+    number = [0] + r.sample(range(1, n + 1), n)
+    _, hands = dealt(len(others), groups, size - 1, 0, seed)
+    out = []
+    for i, h in enumerate(hands):
+        group = [chosen[i % few]] + [others[p - 1] for p in h]
+        out.append([number[p] for p in r.sample(group, size)])
+    return n, out
+
+
+def repeated(times, filing):
+    n, groups = filing
+    return n, [g for g in groups for _ in range(times)]
+
+
+# Filings with a meaning
+
+def figures(count, slots, choices, seed):
+    """Figures of one or two slots on a page, each with a few places; a slot may stay empty."""
+    r, name = random.Random(seed), Namer()
+    figure, slot = [], [[] for _ in range(slots)]
+    for f in range(count):
+        length = 1 if f % 3 else 2
+        figure.append([])
+        for at in sorted(r.sample(range(slots - length + 1), choices)):
+            p = name("figure", f, at)
+            figure[f].append(p)
+            for s in range(at, at + length):
+                slot[s].append(p)
+    for s in range(slots):
+        slot[s].append(name("empty", s))
+    return name.filing(figure + slot)
+
+
+def dominoes(rows, columns, missing):
+    """Dominoes on a board without some squares."""
+    name, cell = Namer(), {(y, x): [] for y in range(rows) for x in range(columns) if (y, x) not in missing}
+    for y, x in sorted(cell):
+        for other in ((y, x + 1), (y + 1, x)):
+            if other in cell:
+                p = name(y, x, other)
+                cell[y, x].append(p)
+                cell[other].append(p)
+    return name.filing(list(cell.values()))
+
+
+def pigeons(count, holes):
+    """Each pigeon in a hole, each hole with one pigeon or empty."""
+    name = Namer()
+    groups = [[name(i, j) for j in range(holes)] for i in range(count)]
+    groups += [[name(i, j) for i in range(count)] + [name("empty", j)] for j in range(holes)]
+    return name.filing(groups)
+
+
+def symmetric_latin(size):
+    """Symmetric latin squares with every sign once on the diagonal: none of even size."""
+    name = Namer()
+
+    def cell(i, j, sign):
+        return name(min(i, j), max(i, j), sign)
+
+    signs = range(size)
+    groups = [[cell(i, j, s) for s in signs] for i in signs for j in range(i, size)]
+    groups += [[cell(i, j, s) for j in signs] for i in signs for s in signs]
+    groups += [[cell(i, i, s) for i in signs] for s in signs]
+    return name.filing(groups)
+
+
+def zipped(count, holes, length):
+    """Pigeons whose placements, left out, tie two others, which makes rule 7 or rule 8 fit two groups: to the limit of placements."""
+    n, groups = pigeons(count, holes)
+    by_pair = True
+    for v in range(count * holes, 0, -1):
+        if n + (length + 3 if by_pair else 8) > MOST_PLACEMENTS:
+            break
+        if by_pair:  # x = -y, and the long pair's common placements become false
+            x, y, extra, common = n + 1, n + 2, n + 3, list(range(n + 4, n + 4 + length))
+            groups += [[v, x, y], common + [x, extra], common + [y]]
+            n += length + 3
+        else:  # a = -b, c = -d, and then a = -c
+            a, b, c, d, e, f = range(n + 1, n + 7)
+            groups += [[v, a, b], [v, c, d], [a, c, e], [b, d, f]]
+            n += 6
+        by_pair = not by_pair
+    return n, groups
+
+
+def pentominoes(letters, rows, columns):
+    """Some pentominoes, each once, on a board of five squares for each."""
+    shapes = {"F": "011 110 010", "I": "11111", "L": "1111 1000", "N": "1110 0011", "P": "111 110", "T": "111 010 010", "U": "101 111", "V": "100 100 111",
+              "W": "100 110 011", "X": "010 111 010", "Y": "1111 0100", "Z": "110 010 011"}
+    name, cell, piece = Namer(), {(y, x): [] for y in range(rows) for x in range(columns)}, []
+    for letter in letters:
+        squares = {(y, x) for y, row in enumerate(shapes[letter].split()) for x, c in enumerate(row) if c == "1"}
+        turned = set()
+        for _ in range(4):
+            squares = {(x, -y) for y, x in squares}
+            for flip in (squares, {(y, -x) for y, x in squares}):
+                top, left = min(y for y, _ in flip), min(x for _, x in flip)
+                turned.add(tuple(sorted((y - top, x - left) for y, x in flip)))
+        piece.append([])
+        for shape in sorted(turned):
+            for dy in range(rows):
+                for dx in range(columns):
+                    here = [(y + dy, x + dx) for y, x in shape]
+                    if all(c in cell for c in here):
+                        p = name(letter, tuple(here))
+                        piece[-1].append(p)
+                        for c in here:
+                            cell[c].append(p)
+    return name.filing(piece + list(cell.values()))
+
+
+def queens(size):
+    """A queen in each row and column, at most one in a diagonal."""
+    name, side = Namer(), range(size)
+    groups = [[name(y, x) for x in side] for y in side]
+    groups += [[name(y, x) for y in side] for x in side]
+    lines = [[(y, x) for y in side for x in side if x - y == d] for d in range(2 - size, size - 1)]
+    lines += [[(y, x) for y in side for x in side if x + y == s] for s in range(1, 2 * size - 2)]
+    groups += [[name(*c) for c in line] + [name("no queen", tuple(line))] for line in lines]
+    return name.filing(groups)
+
+
+def langford(pairs):
+    """Two of each number k, with k others in between: only where `pairs` leaves 0 or 3 divided by 4."""
+    name, slot, number = Namer(), [[] for _ in range(2 * pairs)], []
+    for k in range(pairs, 0, -1):
+        number.append([])
+        for at in range(2 * pairs - k - 1):
+            p = name(k, at)
+            number[-1].append(p)
+            slot[at].append(p)
+            slot[at + k + 1].append(p)
+    return name.filing(number + slot)
+
+
+def latin(size, given, seed):
+    """A latin square with some cells given, drawn from one that exists."""
+    r, name, side = random.Random(seed), Namer(), range(size)
+    rows, columns, signs = (r.sample(side, size) for _ in range(3))
+    groups = [[name(y, x, s) for s in side] for y in side for x in side]
+    groups += [[name(y, x, s) for x in side] for y in side for s in side]
+    groups += [[name(y, x, s) for y in side] for x in side for s in side]
+    for y, x in r.sample([(y, x) for y in side for x in side], given):
+        groups.append([name(y, x, signs[(rows[y] + columns[x]) % size])])
+    return name.filing(groups)
+
+
+# Worst cases
+
+def chain():
+    """Rule 7 fits 250 times, always the last pair of 512 groups."""
+    common = list(range(4, 254))
+    return 256, [[1, 2, 3]] * 510 + [common + [254, 255], common + [-254, 256]]
+
+
+def doubled(name, count):
+    """Groups that double the tree: a left out ties b and c, a taken settles them."""
+    return [[name("a", i), name("b", i), name("c", i)] for i in range(count)]
+
+
+def core(name):
+    """Four pigeons in three holes: no layout, and settling alone doesn't see it."""
+    groups = [[name("pigeon", i, j) for j in range(3)] for i in range(4)]
+    return groups + [[name("pigeon", i, j) for i in range(4)] + [name("empty", j)] for j in range(3)]
+
+
+def armed(doublings, switches, length, padding):
+    """Such chains again and again: each switch, left out, makes rule 7 fit a long pair, to its end a dead end."""
+    name = Namer()
+    groups = doubled(name, doublings)
+    for s in range(switches):
+        groups.append([name("switch", s), name("x", s), name("y", s)])
+    for s in range(switches):
+        common = [name("common", i) for i in range(length)]
+        groups += [common + [name("x", s)], common + [name("y", s)]]
+    groups += core(name)
+    groups += [[name("pad", i) for i in range(3)]] * padding
+    return name.filing(groups)
+
+
+def one_class(doublings, ties, others):
+    """A switch, left out, makes rule 8 fit pair after pair: each tie brings one more placement to a class that stands in nearly every group."""
+    name = Namer()
+    groups = doubled(name, doublings)
+    r, opposite = name("r"), name("opposite")
+    if doublings:
+        groups.append([name("switch"), r, opposite])
+    else:
+        groups.append([r, opposite])
+    for i in range(ties):
+        q = name("q", i)
+        groups += [[r, q, name("first", i % 8)], [opposite, -q, name("second", i % 8)]]
+    for i in range(others):
+        groups.append([r, name("u", i % 41), name("v", i % 43)])
+    if doublings:
+        groups += core(name)
+    return name.filing(groups)
+
+
+def one_long_group(size):
+    """A split for every placement but two: the deepest tree there is."""
+    return size, [list(range(1, size + 1))]
+
+
+ALL = {
+    "x3mix210": lambda: dealt(210, 140, 3, 0.5, 12),
+    "x3mix252": lambda: dealt(252, 168, 3, 0.5, 1),
+    "x3pos220": lambda: dealt(220, 160, 3, 0, 10),
+    "x4pos240": lambda: dealt(240, 160, 4, 0, 7),
+    "x6pos180": lambda: dealt(180, 90, 6, 0, 1),
+    "x6pos210": lambda: dealt(210, 105, 6, 0, 5),
+    "figs14": lambda: figures(14, 18, 8, 6),
+    "domino8": lambda: dominoes(8, 8, {(0, 0), (7, 7)}),
+    "pigeon10": lambda: pigeons(10, 9),
+    "symlatin6": lambda: symmetric_latin(6),
+    "zip78": lambda: zipped(8, 7, 9),
+    "limits": lambda: repeated(2, planted(256, 256, 4, 4)),
+    "limits8": lambda: planted(256, 256, 8, 1),
+    "limits3x": lambda: repeated(3, dealt(255, 170, 4, 0, 11)),
+    "pent5x5": lambda: pentominoes("LPXVI", 5, 5),
+    "queens14": lambda: queens(14),
+    "langford10": lambda: langford(10),
+    "latin6": lambda: latin(6, 6, 9),
+    "chain": chain,
+    "armed": lambda: armed(9, 6, 80, 300),
+    "ties": lambda: one_class(0, 80, 340),
+    "tiesarmed": lambda: one_class(9, 60, 340),
+    "long256": lambda: one_long_group(256),
+}
+
+
+def growth():
+    """By placements; by groups, with one tree at different lengths; by entries."""
+    series = {}
+    for n in range(64, 257, 32):
+        series["n-%d" % n] = (lambda n=n: dealt(n, n // 2, 6, 0, n))
+    for times in (1, 2, 3):
+        series["groups-%d" % (160 * times)] = (lambda times=times: repeated(times, dealt(240, 160, 4, 0, 7)))
+    for size in (12, 16, 24, 32):
+        series["entries-%d" % (64 * size)] = (lambda size=size: dealt(256, 64, size, 0, size))
+    return series
+
+
+def check(name, n, groups):
+    entries = [e for g in groups for e in g]
+    named = {abs(e) for e in entries}
+    assert named == set(range(1, n + 1)), name + ": a placement stands in no group"
+    assert n <= MOST_PLACEMENTS and len(groups) <= MOST_GROUPS and len(entries) <= MOST_ENTRIES, name + ": over the limits"
+
+
+def write(folder, filings):
+    os.makedirs(folder, exist_ok=True)
+    for name, make in filings.items():
+        n, groups = make()
+        check(name, n, groups)
+        path = os.path.join(folder, name)
+        with open(path + ".strip", "wb") as out:
+            out.write(strip(n, groups))
+        with open(path + ".cnf", "w") as out:
+            out.write(dimacs(n, groups))
+        print(path + ".strip")
+
+
+def main(words):
+    if len(words) == 3 and words[0] == "--cnf":
+        with open(words[1], "rb") as given, open(words[2], "w") as out:
+            out.write(dimacs(*read_strip(given.read())))
+    elif len(words) == 2 and words[0] == "--growth":
+        write(words[1], growth())
+    elif len(words) == 1 and not words[0].startswith("-"):
+        write(words[0], ALL)
+    else:
+        sys.exit(__doc__)
+
+
+if __name__ == "__main__":
+    main(sys.argv[1:])

@@ -1,0 +1,239 @@
+#!/usr/bin/env python3
+"""Measures strips and prints one table, for bench/run.sh, which builds what is called here.
+
+The library is called through the window, the independent search directly, both by target/bench/measure; the layout program, the independent search and the solvers
+are also timed as whole runs, from the start of the process to its end, the best of several.
+"""
+import argparse
+import math
+import os
+import resource
+import signal
+import subprocess
+import sys
+import time
+
+import filings
+
+BENCH = "target/bench"
+OUTCOMES = {0: "laid out", 10: "no layout", 11: "stopped"}
+SOLVERS = {"minisat": ["minisat", "-verb=0"], "cadical": ["cadical", "-q", "-n"], "clasp": ["clasp", "--quiet=2", "--verbose=0"]}
+SATISFIABLE, UNSATISFIABLE = (10, 30), (20,)
+SERIES = ["library", "independent", "minisat", "cadical", "clasp"]
+COLOURS = {"library": "#b3261e", "independent": "#e8a33d", "minisat": "#31688e", "cadical": "#35b779", "clasp": "#7a7a7a"}
+
+
+# Whole runs
+
+def run_once(words, given, limit):
+    """Seconds from the start of a process to its end and its status; no seconds where it was still running at the limit."""
+    quiet = os.open(os.devnull, os.O_WRONLY)
+    source = os.open(given or os.devnull, os.O_RDONLY)
+    actions = [(os.POSIX_SPAWN_DUP2, source, 0), (os.POSIX_SPAWN_DUP2, quiet, 1), (os.POSIX_SPAWN_DUP2, quiet, 2)]
+    late = []
+    start = time.perf_counter()
+    child = os.posix_spawnp(words[0], words, os.environ, file_actions=actions)
+    signal.signal(signal.SIGALRM, lambda *_: (late.append(1), os.kill(child, signal.SIGKILL)))
+    signal.setitimer(signal.ITIMER_REAL, limit)
+    _, status = os.waitpid(child, 0)
+    seconds = time.perf_counter() - start
+    signal.setitimer(signal.ITIMER_REAL, 0)
+    os.close(source)
+    os.close(quiet)
+    return (None if late else seconds), os.waitstatus_to_exitcode(status)
+
+
+def best_run(words, given, limit):
+    best, status = run_once(words, given, limit)
+    if best is not None and best < 1:
+        for _ in range(9 if best < 0.1 else 2):
+            seconds, status = run_once(words, given, limit)
+            best = best if seconds is None else min(best, seconds)
+    return best, status
+
+
+def whole_runs(row, options):
+    """Seconds of each program on a row's filing, None past the limit."""
+    seconds = {}
+    for name, program in (("library", "target/bin/layout"), ("independent", BENCH + "/own")):
+        seconds[name], status = best_run([program], row["strip"], options.limit)
+        if seconds[name] is not None and status != 0:
+            sys.exit("%s: %s ended with %d" % (row["name"], program, status))
+    cnf = os.path.join(BENCH, row["name"] + ".cnf")
+    with open(row["strip"], "rb") as given, open(cnf, "w") as out:
+        out.write(filings.dimacs(*filings.read_strip(given.read())))
+    for name, words in SOLVERS.items():
+        seconds[name], status = best_run(words + [cnf], None, options.limit)
+        right = SATISFIABLE if row["number"] == 0 else UNSATISFIABLE if row["number"] == 10 else SATISFIABLE + UNSATISFIABLE
+        if seconds[name] is not None and status not in right:
+            sys.exit("%s: %s ended with %d, but the filing has the outcome '%s'" % (row["name"], name, status, OUTCOMES[row["number"]]))
+    os.remove(cnf)
+    return seconds
+
+
+# Rows
+
+def measured(strips, options):
+    """One row for each strip, as target/bench/measure gives it."""
+    for path in strips:
+        done = subprocess.run([BENCH + "/measure", str(options.allowance), str(options.seconds), path], stdout=subprocess.PIPE, text=True, check=False)
+        words = done.stdout.rsplit(None, 10)
+        if len(words) != 11 or words[10] != "same":
+            sys.exit("%s: library and independent search differ, or no strip: %s" % (path, done.stdout))
+        n, groups, entries, number, count, at, splits = map(int, words[1:8])
+        yield {"strip": path, "name": os.path.splitext(os.path.basename(path))[0], "n": n, "groups": groups, "entries": entries, "number": number, "count": count, "at": at,
+               "splits": splits, "library": float(words[8]), "independent": float(words[9])}
+
+
+def reference(row, program):
+    """Processor seconds of one search by a program that answers the line `bench N ALLOWANCE e1 e2 ..` with `NUMBER PLACE COUNT | .. reps R ..`, the best of three.
+
+    It searches once, and if that was short R times more."""
+    with open(row["strip"], "rb") as given:
+        n, groups = filings.read_strip(given.read())
+    line = " ".join(map(str, ["bench", n, row["at"]] + [e for g in groups for e in g + [0]]))
+    best = None
+    for _ in range(3):
+        before = resource.getrusage(resource.RUSAGE_CHILDREN)
+        words = subprocess.run([program], input=line + "\n", stdout=subprocess.PIPE, text=True, check=True).stdout.split()
+        after = resource.getrusage(resource.RUSAGE_CHILDREN)
+        if int(words[2]) != row["splits"]:
+            sys.exit("%s: the reference's count is %s" % (row["name"], words[2]))
+        repeats = int(words[words.index("reps") + 1])
+        seconds = (after.ru_utime + after.ru_stime - before.ru_utime - before.ru_stime) / (repeats + (repeats > 1))
+        best = seconds if best is None else min(best, seconds)
+    return best
+
+
+def rate(splits, seconds):
+    if splits == 0:
+        return "-"
+    return "{:,.0f}".format(splits / seconds) if splits > 10 * seconds else "%.2g" % (splits / seconds)
+
+
+def shown(seconds, limit):
+    return ">%g" % limit if seconds is None else "%.3f" % seconds
+
+
+def mean(ratios):
+    return math.exp(sum(map(math.log, ratios)) / len(ratios))
+
+
+def ahead(row, whole):
+    """Who answered first of those that a user could pick."""
+    times = {name: whole[name] for name in SERIES if name != "independent" and whole[name] is not None}
+    if row["number"] == 11:
+        times.pop("library", None)
+    return min(times, key=times.get) if times else "-"
+
+
+def print_line(cells):
+    print("| " + " | ".join(cells) + " |", flush=True)
+
+
+def head(cells):
+    print_line(cells)
+    print("|" + "---|" * len(cells))
+
+
+# The table and the growth of cost
+
+def table(strips, options):
+    columns = ["filing", "n", "groups", "entries", "outcome", "count", "library splits/s", "independent splits/s", "ratio", "layout program s"]
+    columns += [name + " s" for name in SOLVERS] + ["ahead"]
+    if options.reference:
+        columns += ["reference splits/s", "library to it", "independent to it"]
+    head(columns)
+    rows, first = [], 0
+    for row in measured(strips, options):
+        whole = row["whole"] = whole_runs(row, options)
+        row["ahead"] = ahead(row, whole)
+        stopped = row["at"] < options.allowance and row["splits"] == row["at"]
+        cells = [row["name"], str(row["n"]), str(row["groups"]), "{:,}".format(row["entries"]), OUTCOMES[row["number"]], "{:,}".format(row["count"])]
+        cells += [rate(row["splits"], row["library"]) + (" (first {:,})".format(row["at"]) if stopped else ""), rate(row["splits"], row["independent"])]
+        cells += ["%.2g" % (row["independent"] / row["library"])] + [shown(whole[name], options.limit) for name in SERIES if name != "independent"] + [row["ahead"]]
+        if options.reference:
+            row["reference"] = reference(row, options.reference)
+            cells += [rate(row["splits"], row["reference"]), "%.2g" % (row["reference"] / row["library"]), "%.2g" % (row["reference"] / row["independent"])]
+        print_line(cells)
+        rows.append(row)
+        first += row["ahead"] == "library"
+    print()
+    print("Geometric mean of the ratios, library to independent search: %.2g." % mean([r["independent"] / r["library"] for r in rows]))
+    if options.reference:
+        print("Library to reference: %.2g. Independent search to reference: %.2g." % (mean([r["reference"] / r["library"] for r in rows]), mean([r["reference"] / r["independent"] for r in rows])))
+    print("The library is ahead of all three solvers on %d of %d filings." % (first, len(rows)))
+    if options.picture:
+        with open(options.picture, "w") as out:
+            out.write(picture(rows, options.limit))
+
+
+def growth(strips, options):
+    """All rows of a series at one allowance, the least that the library reached in any of them: the first splits of a tree may be cheaper than later ones."""
+    head(["filing", "n", "groups", "entries", "splits", "library, microseconds a call", "a split, nanoseconds", "independent, microseconds a call", "a split, nanoseconds"])
+    series = {}
+    for row in measured(strips, options):
+        series.setdefault(row["name"].split("-")[0], []).append(row)
+    for rows in series.values():
+        least = min(row["at"] if row["splits"] == row["at"] else options.allowance for row in rows)
+        again = argparse.Namespace(allowance=least, seconds=options.seconds * 10)
+        for row in measured([row["strip"] for row in rows], again):
+            cells = [row["name"], str(row["n"]), str(row["groups"]), "{:,}".format(row["entries"]), "{:,}".format(row["splits"])]
+            for name in ("library", "independent"):
+                cells += ["{:,.1f}".format(1e6 * row[name]), "{:,.0f}".format(1e9 * row[name] / row["splits"]) if row["splits"] else "-"]
+            print_line(cells)
+
+
+# The picture
+
+def picture(rows, limit):
+    """Seconds of whole runs, as bars on a scale of powers of ten."""
+    left, width, bar, gap, top = 110, 760, 7, 9, 74
+    low, high = math.log10(0.0005), math.log10(limit)
+    height = top + len(rows) * (len(SERIES) * bar + gap) + 30
+
+    def x(seconds):
+        return left + width * (max(low, min(high, math.log10(seconds))) - low) / (high - low)
+
+    out = ['<svg xmlns="http://www.w3.org/2000/svg" viewBox="0 0 %d %d" font-family="sans-serif" font-size="12">' % (left + width + 60, height),
+           '<rect width="100%" height="100%" fill="white"/>',
+           '<text x="%d" y="22" font-size="15">Seconds from start to end of each program, by filing (scale of powers of ten)</text>' % left]
+    at = left
+    for name in SERIES:
+        label = {"library": "library (layout program)", "independent": "independent search"}.get(name, name)
+        out.append('<rect x="%d" y="35" width="12" height="12" fill="%s"/><text x="%d" y="45">%s</text>' % (at, COLOURS[name], at + 17, label))
+        at += 35 + 7 * len(label)
+    for power in range(math.ceil(low), math.floor(high) + 1):
+        label = {-3: "1 ms", -2: "10 ms", -1: "0.1 s"}.get(power, "%d s" % 10 ** max(power, 0))
+        out.append('<line x1="%.1f" y1="%d" x2="%.1f" y2="%d" stroke="#ccc"/>' % (x(10.0 ** power), top - 6, x(10.0 ** power), height - 24))
+        out.append('<text x="%.1f" y="%d" text-anchor="middle" fill="#555">%s</text>' % (x(10.0 ** power), top - 10, label))
+    y = top
+    for row in rows:
+        out.append('<text x="%d" y="%.1f" text-anchor="end">%s</text>' % (left - 8, y + len(SERIES) * bar / 2 + 4, row["name"]))
+        for name in SERIES:
+            seconds = row["whole"][name]
+            end = x(limit if seconds is None else seconds)
+            out.append('<rect x="%d" y="%d" width="%.1f" height="%d" fill="%s"/>' % (left, y, max(2.0, end - left), bar - 1, COLOURS[name]))
+            if seconds is None:
+                out.append('<text x="%.1f" y="%d" font-size="8">over %g s</text>' % (end + 3, y + bar - 1, limit))
+            y += bar
+        y += gap
+    out.append('<text x="%d" y="%d" fill="#555">The solvers answer with some layout, the library and the independent search with the first one.</text>' % (left, height - 8))
+    return "\n".join(out + ["</svg>"]) + "\n"
+
+
+def main():
+    parser = argparse.ArgumentParser(description=__doc__, formatter_class=argparse.RawDescriptionHelpFormatter)
+    parser.add_argument("--allowance", type=int, default=1000000, help="splits that a search may make (default: the layout program's)")
+    parser.add_argument("--seconds", type=float, default=2, help="a library slower than this on a filing is measured at a smaller allowance")
+    parser.add_argument("--limit", type=float, default=10, help="seconds for a whole run")
+    parser.add_argument("--reference", default=os.environ.get("REFERENCE"), help="a further program to measure; its answers are in the form of `bench` lines")
+    parser.add_argument("--picture", help="the SVG file to write")
+    parser.add_argument("--growth", action="store_true", help="print how cost grows instead")
+    parser.add_argument("strips", nargs="+")
+    options = parser.parse_args()
+    (growth if options.growth else table)(options.strips, options)
+
+
+if __name__ == "__main__":
+    main()
