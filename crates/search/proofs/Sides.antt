@@ -64,7 +64,7 @@ module _ {ix st wk : List ℕ} {l : Level} {plan : List ℕ} {trail : List ℤ} 
   f = formulaOf ix
 
   -- "Dead end: no layout here."
-  pub died-walk : Died f (stateIn st) → walkFrom true l f (stateIn st) plan trail ≡ treeWalk l f (stateIn st) plan trail
+  pub died-walk : Died f (stateIn st) → walkFrom true l ix st plan trail ≡ treeWalk l f (stateIn st) plan trail
   died-walk d = dead-walk n (l .depth) (l .left) plan trail _ (at-dead-end (k .within) (stateIn st) (b .well) (died-settles (k .within) (b .well) d))
 
   module _ {st′ wk′ : List ℕ} (r : Rested ix st st′ wk′) where
@@ -162,7 +162,7 @@ module _ {ix st wk : List ℕ} {p : ℕ} {l : Level} {plan : List ℕ} {trail : 
 
       -- whether its first step met a dead end or not, the side is walked
       pub side-walk : (r : Bool) → Begun ix st x st′ wk′ r → (left : ℕ) (plan′ : List ℕ) (trail′ : List ℤ) →
-          walkFrom r (under p left l) (formulaOf ix) (stateIn st′) plan′ trail′ ≡ treeWalk (under p left l) (formulaOf ix) sideState plan′ trail′
+          walkFrom r (under p left l) ix st′ plan′ trail′ ≡ treeWalk (under p left l) (formulaOf ix) sideState plan′ trail′
       side-walk true b left plan′ trail′ =
           let d : Dies (formulaOf ix) sideState = rw is at (dies-in (b .0)) in
           dead-walk (l .variables) (l .depth + 1) left plan′ trail′ _ (at-dead-end (k .lasting .within) sideState side-well (settled-dead (k .lasting .within) side-well none-left d))

@@ -40,7 +40,7 @@ module _ {n : ℕ} {t : List ℤ} {plan : List ℕ} {trail : List ℤ} (k : Sear
         deep = omega (arith, opens-bound (stateIn st) n);
       }
 
-  pub start-walk : (r : Bool) → StartOf ix st wk r → walkFrom r (record { variables = n; from = 1; left = left; depth = 0 }) (formulaOf ix) (stateIn st) plan trail ≡ tableWalk n t left plan trail
+  pub start-walk : (r : Bool) → StartOf ix st wk r → walkFrom r (record { variables = n; from = 1; left = left; depth = 0 }) ix st plan trail ≡ tableWalk n t left plan trail
   start-walk true s = rw (← is) (dead-walk n 0 left plan trail _ (at-dead-end within initial (initial-well n) (died-settles within (initial-well n) (s .0))))
   start-walk false s =
       rw (← is)

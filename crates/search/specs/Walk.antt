@@ -89,12 +89,13 @@ walkOf n d r p t = walked (record { outcome = r .outcome; count = r .count }) (p
 abbrev pub treeWalk : Level → Formula → State → List ℕ → List ℤ → Walked
 treeWalk l f s = walkOf (l .variables) (l .depth) (limited (l .left) (treeFrom (l .variables) f s))
 
-abbrev pub walkFrom : Bool → Level → Formula → State → List ℕ → List ℤ → Walked
-walkFrom true l f s = walked (record { outcome = NoLayout; count = 0 })
-walkFrom false l f s = treeWalk l f s
+abbrev pub walkFrom : Bool → Level → (ix st : List ℕ) → List ℕ → List ℤ → Walked
+walkFrom true l ix st = walked (record { outcome = NoLayout; count = 0 })
+walkFrom false l ix st = treeWalk l (formulaOf ix) (stateIn st)
 
-abbrev pub splitWalk : ℕ → Level → Formula → State → List ℕ → List ℤ → Walked
-splitWalk p l f s = walkOf (l .variables) (l .depth) (limited (l .left) (visit (tree (decide (l .variables) f) (suc (l .variables))) 1 (splitOn (l .variables) s (some p))))
+abbrev pub splitWalk : ℕ → Level → (ix st : List ℕ) → List ℕ → List ℤ → Walked
+splitWalk p l ix st =
+    let n = l .variables in walkOf n (l .depth) (limited (l .left) (visit (tree (decide n (formulaOf ix)) (suc n)) 1 (splitOn n (stateIn st) (some p))))
 
 -- a checked table with room for the results, and its walk from the initial state
 pub record Searchable (n : ℕ) (t : List ℤ) (plan : List ℕ) (trail : List ℤ) : Type 0 where

@@ -129,7 +129,7 @@ fn settle_and_decide(
     trail: &mut [i16],
 ) -> Walk
     requires { ⌜ Walkable (now index) (now state) (now work) dead level (now plan) (now trail) ⌝ }
-    ensures walks { λ r. ⌜ walked r (now (plan .exit)) (now (trail .exit)) ≡ walkFrom dead level (formulaOf (now (index .entry))) (stateIn (now (state .entry))) (now (plan .entry)) (now (trail .entry)) ⌝ }
+    ensures walks { λ r. ⌜ walked r (now (plan .exit)) (now (trail .exit)) ≡ walkFrom dead level (now (index .entry)) (now (state .entry)) (now (plan .entry)) (now (trail .entry)) ⌝ }
     ensures whole { λ _. ⌜ Whole (now (work .exit)) ⌝ }
 {
     if dead {
@@ -166,7 +166,7 @@ fn split(
     trail: &mut [i16],
 ) -> Walk
     requires { ⌜ Splittable (now index) (now state) (now work) (p .0) level (now plan) (now trail) ⌝ }
-    ensures walks { λ r. ⌜ walked r (now (plan .exit)) (now (trail .exit)) ≡ splitWalk (p .0) level (formulaOf (now (index .entry))) (stateIn (now (state .entry))) (now (plan .entry)) (now (trail .entry)) ⌝ }
+    ensures walks { λ r. ⌜ walked r (now (plan .exit)) (now (trail .exit)) ≡ splitWalk (p .0) level (now (index .entry)) (now (state .entry)) (now (plan .entry)) (now (trail .entry)) ⌝ }
     ensures whole { λ _. ⌜ Whole (now (work .exit)) ⌝ }
 {
     if level.left == 0 {

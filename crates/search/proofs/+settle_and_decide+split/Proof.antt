@@ -19,7 +19,8 @@ use Rattle.engine.specs.Ready.{Rested}
 use Rattle.engine.proofs.Settles.{rested-settles}
 use Rattle.search.specs.Walk.{Beginning, walked, treeWalk, under}
 use Rattle.search.proofs.Outcomes.{other-outcome}
-use Rattle.search.proofs.Sides.{walkWeight, died-walk, rested-fewer, rested-branchable, rested-splittable, branch-open, side-deep, side-room, side-siding, side-walkable, side-falls, side-walk, side-passable, out-is, taken-is}
+use Rattle.search.proofs.Sides.{walkWeight, died-walk, rested-fewer, rested-branchable, rested-splittable, branch-open}
+use Rattle.search.proofs.Sides.{side-deep, side-room, side-siding, side-walkable, side-falls, side-walk, side-passable, out-is, taken-is}
 use Rattle.search.proofs.Walking.{walk-count, at-rest, leaf-walk, none-left, first-side, second-side}
 use Rattle.search.proofs.settle_and_decide.Reads as settle-and-decide
 use Rattle.search.proofs.settle_and_decide.Kinds as settle-and-decide-kinds
@@ -116,40 +117,62 @@ SecondBegun t = split-lts.After-begin-side2 (split-calls t) (split-at t) split.P
 abbrev SecondWalked : ℕ → Type 0
 SecondWalked t = split-lts.After-settle-and-decide2 (split-calls t) (split-at t) split.Post
 
+-- where a split began, what its first side did, and what its second side began from
+abbrev start : (t : ℕ) → FirstBegun t → split-lts.Start (split-calls t) (split-at t) split.Post
+start t b = b .before .before .before .before .before .before .before .before
+
+abbrev first : (t : ℕ) → FirstWalked t → FirstBegun t
+first t f = f .before .before .before .before .before .before .before
+
+abbrev before : (t : ℕ) → SecondBegun t → FirstWalked t
+before t b = b .before .before .before .before .before .before .before .before .before .before .before
+
+abbrev second : (t : ℕ) → SecondWalked t → SecondBegun t
+second t w = w .before .before .before .before .before .before .before
+
+abbrev origin : (t : ℕ) → FirstWalked t → split-lts.Start (split-calls t) (split-at t) split.Post
+origin t f = start t (first t f)
+
+abbrev earlier : (t : ℕ) → SecondWalked t → FirstWalked t
+earlier t w = before t (second t w)
+
+abbrev some-left : (t : ℕ) → FirstWalked t → split-lts.Else1 (split-calls t) (split-at t) split.Post
+some-left t f = f .before .before .before .before .before .before .before .before .before .before .before .before
+
 first-is : (t : ℕ) (b : FirstBegun t) →
-    let a = b .before .before .before .before .before .before .before .before .args in
+    let a = start t b .args in
     assign (literalAt (b .before .code .result)) FALSE (stateIn (now (a .state))) ≡ assign (Pos (a .p .0)) FALSE (stateIn (now (a .state)))
-first-is t b = let a = b .before .before .before .before .before .before .before .before .args in out-is (a .p .0) (b .before .code .result) (b .before .code .ensures) (stateIn (now (a .state)))
+first-is t b = let a = start t b .args in out-is (a .p .0) (b .before .code .result) (b .before .code .ensures) (stateIn (now (a .state)))
 
 -- what the first side makes, from the left-out state; its count is within its allowance
 first-walk : (t : ℕ) (f : FirstWalked t) →
-    let a = f .before .before .before .before .before .before .before .before .before .before .before .before .before .before .before .args in
+    let a = origin t f .args in
     walked (f .settle-and-decide .result) (f .settle-and-decide .last .1 .1 .1 .1 .1 .0) (f .settle-and-decide .last .1 .1 .1 .1 .1 .1 .0) ≡
     treeWalk (under (a .p .0) (a .level .left - 1) (a .level)) (formulaOf (now (a .index))) (assign (Pos (a .p .0)) FALSE (stateIn (now (a .state)))) (now (a .plan)) (now (a .trail))
 first-walk t f =
-    let g = f .before .before .before .before .before .before .before in
+    let g = first t f in
     rw (f .before .before .before .below .ensures) at (f .settle-and-decide .ensures .0) ∙
-    side-walk (f .before .before .before .before .before .before .before .before .before .before .before .before .before .before .before .pre .1) _ FALSE refl (first-is t g) (g .begin-side .last .1 .0) (g .begin-side .last .1 .1 .0) (g .begin-side .result) (g .begin-side .ensures) _ _ _
+    side-walk (origin t f .pre .1) _ FALSE refl (first-is t g) (g .begin-side .last .1 .0) (g .begin-side .last .1 .1 .0) (g .begin-side .result) (g .begin-side .ensures) _ _ _
 
-first-count : (t : ℕ) (f : FirstWalked t) → f .settle-and-decide .result .count + 1 ≤ f .before .before .before .before .before .before .before .before .before .before .before .before .before .before .before .args .level .left
-first-count t f = omega (arith, walk-count _ _ _ _ _ _ _ (first-walk t f), f .before .before .before .before .before .before .before .before .before .before .before .before .if1 .left)
+first-count : (t : ℕ) (f : FirstWalked t) → f .settle-and-decide .result .count + 1 ≤ origin t f .args .level .left
+first-count t f = omega (arith, walk-count _ _ _ _ _ _ _ (first-walk t f), some-left t f .if1 .left)
 
 second-is : (t : ℕ) (b : SecondBegun t) →
-    let a = b .before .before .before .before .before .before .before .before .before .before .before .before .before .before .before .before .before .before .before .before .before .before .before .before .before .before .args in
+    let a = origin t (before t b) .args in
     assign (literalAt (b .before .code2 .result)) FALSE (stateIn (now (a .state))) ≡ assign (Pos (a .p .0)) TRUE (stateIn (now (a .state)))
-second-is t b = let a = b .before .before .before .before .before .before .before .before .before .before .before .before .before .before .before .before .before .before .before .before .before .before .before .before .before .before .args in taken-is (a .p .0) (b .before .code2 .result) (b .before .code2 .ensures ∙ ap codeOf (b .before .before .opposite .ensures)) (stateIn (now (a .state)))
+second-is t b = let a = origin t (before t b) .args in taken-is (a .p .0) (b .before .code2 .result) (b .before .code2 .ensures ∙ ap codeOf (b .before .before .opposite .ensures)) (stateIn (now (a .state)))
 
 -- and the second, from the taken state and with what the first side leaves
 second-walk : (t : ℕ) (b : SecondWalked t) →
-    let f = b .before .before .before .before .before .before .before .before .before .before .before .before .before .before .before .before .before .before in
-    let a = f .before .before .before .before .before .before .before .before .before .before .before .before .before .before .before .args in
+    let f = earlier t b in
+    let a = origin t f .args in
     walked (b .settle-and-decide2 .result) (b .settle-and-decide2 .last .1 .1 .1 .1 .1 .0) (b .settle-and-decide2 .last .1 .1 .1 .1 .1 .1 .0) ≡
     treeWalk (under (a .p .0) (a .level .left - (1 + f .settle-and-decide .result .count)) (a .level)) (formulaOf (now (a .index))) (assign (Pos (a .p .0)) TRUE (stateIn (now (a .state))))
     (f .settle-and-decide .last .1 .1 .1 .1 .1 .0) (f .settle-and-decide .last .1 .1 .1 .1 .1 .1 .0)
 second-walk t b =
-    let g = b .before .before .before .before .before .before .before in
+    let g = second t b in
     rw (b .before .before .before .below2 .ensures) at (b .settle-and-decide2 .ensures .0) ∙
-    side-walk (b .before .before .before .before .before .before .before .before .before .before .before .before .before .before .before .before .before .before .before .before .before .before .before .before .before .before .before .before .before .before .before .before .before .pre .1) _ TRUE refl (second-is t g) (g .begin-side2 .last .1 .0) (g .begin-side2 .last .1 .1 .0) (g .begin-side2 .result) (g .begin-side2 .ensures) _ _ _
+    side-walk (origin t (earlier t b) .pre .1) _ TRUE refl (second-is t g) (g .begin-side2 .last .1 .0) (g .begin-side2 .last .1 .1 .0) (g .begin-side2 .result) (g .begin-side2 .ensures) _ _ _
 
 pub +settle-and-decide+split-spec : {M : Type 1} → statement M
 +settle-and-decide+split-spec =
@@ -170,7 +193,7 @@ pub +settle-and-decide+split-spec : {M : Type 1} → statement M
     (λ c. search needs)
     (λ c κs.
     let e = c .before .before .before .before .before .before .before .before .before .before in
-    let k = e .before .before .pre .1 .lasting in (k .plan-room, k .small))
+    let k = e .before .before .pre .1 .lasting in (omega (arith, k .plan-room), omega (arith, k .small)))
     (λ c. search needs)
     (λ c.
     let o = c .before .before .before .before .before in
@@ -210,38 +233,40 @@ pub +settle-and-decide+split-spec : {M : Type 1} → statement M
     (λ c κs. let k = c .before .before .before .before .before .before .before .before .before .before .before .pre .1 in omega (arith, side-deep k, k .lasting .small))
     (λ c κs.
     let g = c .before .before .before .before .before .before in
-    let s = c .before .before .before .before .before .before .before .before .before .before .before .before .before .before in
+    let s = start t g in
     let k = s .pre .1 in
     let r = g .begin-side .result in
+    let st = g .begin-side .last .1 .0 in
+    let wk = g .begin-side .last .1 .1 .0 in
     rw (c .before .before .below .ensures)
-    (omega (arith, side-falls k _ FALSE refl (first-is t g) (g .begin-side .last .1 .0) (g .begin-side .last .1 .1 .0) r (g .begin-side .ensures), s .pre .0), side-walkable k _ FALSE refl (first-is t g) (g .begin-side .last .1 .0) (g .begin-side .last .1 .1 .0) r (g .begin-side .ensures) _ _ _ refl refl))
+    (omega (arith, side-falls k _ FALSE refl (first-is t g) st wk r (g .begin-side .ensures), s .pre .0), side-walkable k _ FALSE refl (first-is t g) st wk r (g .begin-side .ensures) _ _ _ refl refl))
     (λ c. search needs)
     (λ c κs.
     let f = c .before .before .before .before .before in
-    let s = f .before .before .before .before .before .before .before .before .before .before .before .before .before .before .before in
-    side-passable (s .pre .1) _ _ (s .args .level .left) (omega (arith, first-count t f)) (f .before .before .before .before .before .before .before .before .before .before .before .before .before .struct-known .given .1 .1 .0) _ refl _ (f .settle-and-decide .kept .1 .1 .1 .1 .1 .1 .0))
+    let s = origin t f in
+    side-passable (s .pre .1) _ _ (s .args .level .left) (omega (arith, first-count t f)) (some-left t f .before .struct-known .given .1 .1 .0) _ refl _ (f .settle-and-decide .kept .1 .1 .1 .1 .1 .1 .0))
     (λ c. search needs)
     (λ c. search needs)
     (λ c.
     let f = c .before .before .before .before .before .before .before in
-    let s = f .before .before .before .before .before .before .before .before .before .before .before .before .before .before .before in
+    let s = origin t f in
     let a = s .args in (
       rw (c .before .through .ensures .0, c .before .through .ensures .1)
           (first-side (a .level .variables) (formulaOf (now (a .index))) (stateIn (now (a .state))) (a .p .0) (a .level .depth) (now (a .plan)) (now (a .trail)) (a .level .left)
-          (f .before .before .before .before .before .before .before .before .before .before .before .before .if1 .left) (side-room (s .pre .1)) _ (first-walk t f)
+          (some-left t f .if1 .left) (side-room (s .pre .1)) _ (first-walk t f)
           (other-outcome (f .settle-and-decide .result .outcome) NoLayout 0 2 (c .before .before .before .match .keys2) (λ e. omega arith) (λ e. omega arith))),
       f .settle-and-decide .ensures .1,
     ))
     (λ c. omega (arith, first-count t (c .before .before .before .before .before .before)))
     (λ c κs. search needs)
-    (λ c κs. let k = c .before .before .before .before .before .before .before .before .before .before .before .before .before .before .before .before .before .before .before .before .before .before .before .before .pre .1 in omega (arith, ap var (c .opposite .ensures), branch-open k .inside, k .lasting .small))
-    (λ c κs. let k = c .before .before .before .before .before .before .before .before .before .before .before .before .before .before .before .before .before .before .before .before .before .before .before .before .before .pre .1 in let f = c .before .before .before .before .before .before .before .before .before .before in side-siding k _ (omega (arith, c .code2 .ensures ∙ ap codeOf (c .before .opposite .ensures))) _ (f .settle-and-decide .ensures .1))
+    (λ c κs. let k = origin t (c .before .before .before .before .before .before .before .before .before) .pre .1 in omega (arith, ap var (c .opposite .ensures), branch-open k .inside, k .lasting .small))
+    (λ c κs. let f = c .before .before .before .before .before .before .before .before .before .before in side-siding (origin t f .pre .1) _ (omega (arith, c .code2 .ensures ∙ ap codeOf (c .before .opposite .ensures))) _ (f .settle-and-decide .ensures .1))
     (λ c. omega (arith, first-count t (c .before .before .before .before .before .before .before .before .before .before .before .before .before .before)))
-    (λ c κs. let k = c .before .before .before .before .before .before .before .before .before .before .before .before .before .before .before .before .before .before .before .before .before .before .before .before .before .before .before .before .before .pre .1 in omega (arith, side-deep k, k .lasting .small))
+    (λ c κs. let k = origin t (before t (c .before .before .before)) .pre .1 in omega (arith, side-deep k, k .lasting .small))
     (λ c κs.
     let g = c .before .before .before .before .before .before in
-    let f = c .before .before .before .before .before .before .before .before .before .before .before .before .before .before .before .before .before in
-    let s = c .before .before .before .before .before .before .before .before .before .before .before .before .before .before .before .before .before .before .before .before .before .before .before .before .before .before .before .before .before .before .before .before in
+    let f = before t g in
+    let s = origin t f in
     let k = s .pre .1 in
     let r = g .begin-side2 .result in
     let st = g .begin-side2 .last .1 .0 in
@@ -252,22 +277,22 @@ pub +settle-and-decide+split-spec : {M : Type 1} → statement M
     ))
     (λ c κs.
     let b = c .before .before .before .before in
-    let f = b .before .before .before .before .before .before .before .before .before .before .before .before .before .before .before .before .before .before in
-    let s = f .before .before .before .before .before .before .before .before .before .before .before .before .before .before .before in
+    let f = earlier t b in
+    let s = origin t f in
     side-passable (s .pre .1) _ _ (s .args .level .left)
-    (omega (arith, first-count t f, walk-count _ _ _ _ _ _ _ (second-walk t b))) (f .before .before .before .before .before .before .before .before .before .before .before .before .before .struct-known .given .1 .1 .0) _ refl _
+    (omega (arith, first-count t f, walk-count _ _ _ _ _ _ _ (second-walk t b))) (some-left t f .before .struct-known .given .1 .1 .0) _ refl _
     (b .settle-and-decide2 .kept .1 .1 .1 .1 .1 .1 .0 ∙ f .settle-and-decide .kept .1 .1 .1 .1 .1 .1 .0))
-    (λ c. let b = c .before .before .before .before .before .before in let f = b .before .before .before .before .before .before .before .before .before .before .before .before .before .before .before .before .before .before in b .settle-and-decide2 .kept .1 .1 .1 .1 .1 .0 ∙ f .settle-and-decide .kept .1 .1 .1 .1 .1 .0)
-    (λ c. let b = c .before .before .before .before .before .before in let f = b .before .before .before .before .before .before .before .before .before .before .before .before .before .before .before .before .before .before in
+    (λ c. let b = c .before .before .before .before .before .before in let f = earlier t b in b .settle-and-decide2 .kept .1 .1 .1 .1 .1 .0 ∙ f .settle-and-decide .kept .1 .1 .1 .1 .1 .0)
+    (λ c. let b = c .before .before .before .before .before .before in let f = earlier t b in
     c .before .through2 .kept .1 .1 .1 .1 .0 ∙ (b .settle-and-decide2 .kept .1 .1 .1 .1 .1 .1 .0 ∙ f .settle-and-decide .kept .1 .1 .1 .1 .1 .1 .0))
     (λ c.
     let b = c .before .before .before .before .before .before in
     let m = b .before .before .before .before .before .before .before .before .before .before .before .before .before in
     let f = m .before .before .before .before .before in
-    let s = f .before .before .before .before .before .before .before .before .before .before .before .before .before .before .before in
+    let s = origin t f in
     let a = s .args in (
       rw (c .before .through2 .ensures .0, c .before .through2 .ensures .1)
           (second-side (a .level .variables) (formulaOf (now (a .index))) (stateIn (now (a .state))) (a .p .0) (a .level .depth) (now (a .plan)) (now (a .trail)) (a .level .left)
-          (f .before .before .before .before .before .before .before .before .before .before .before .before .if1 .left) (side-room (s .pre .1)) _ (first-walk t f) (m .enum-told .given .1) _ (second-walk t b)),
+          (some-left t f .if1 .left) (side-room (s .pre .1)) _ (first-walk t f) (m .enum-told .given .1) _ (second-walk t b)),
       b .settle-and-decide2 .ensures .1,
     )))
