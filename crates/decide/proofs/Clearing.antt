@@ -1,5 +1,5 @@
 -- Clearing a clause: one literal, and the walk over the clause.
-use mathlib.Core.Path.{_≡_, refl, ap, sym, _∙_}
+use mathlib.Core.Path.{_≡_, ap, sym, _∙_}
 use mathlib.Core.Bool.{Bool, true, false}
 use mathlib.Core.Logic.{_⊎_, inl, inr}
 use mathlib.Core.List.{List, List·Memᴰ}
@@ -8,13 +8,11 @@ use native.Mathlib.Decide.{ℕ-discrete as decEq}
 use native.Mathlib.Omega.{arith}
 use Rattle.general.specs.Lists.{mem-from, from-mem}
 use Rattle.literal.specs.declared.Literal.{Literal}
-use Rattle.literal.specs.declared.Literal.the-variants.{Pos, Neg}
 use Rattle.literal.specs.Literal.{FALSE, var, codeOf, literalAt, maxTable, codes}
 use Rattle.literal.proofs.Codes.{literalAt-codeOf, var-at}
 use Rattle.theory.specs.Formula.{Clause}
 use Rattle.theory.specs.State.{State, value, replace, assign, standing}
-use Rattle.theory.proofs.Literals.{var-opposite}
-use Rattle.theory.proofs.States.{replace-same, replace-other, value-assign}
+use Rattle.theory.proofs.States.{replace-same, replace-other, value-variable, value-assign}
 use Rattle.theory.proofs.Clauses.{mem-standing}
 use Rattle.state.proofs.Values.{stateOf-inside}
 use Rattle.occurrences.specs.Index.{clauseCount, clauseOf, codeAt, startAt}
@@ -69,10 +67,6 @@ along-begins {ix} g w s h start end ea eb = record {
   only = λ j x y. absurd (omega arith);
 }
 
-value-var : (s : State) (l : Literal) → var (value s l) ≡ var (s (var l))
-value-var s (Pos p) = refl
-value-var s (Neg p) = var-opposite (s p)
-
 module _ {ix st wk : List ℕ} {g w start end : ℕ} {st′ wk′ : List ℕ} {i : ℕ} (q : Along ix st wk g w start end st′ wk′ i) where
   sound : Sound ix st′ wk′
   sound = q .moved .went .sound
@@ -97,7 +91,7 @@ module _ {ix st wk : List ℕ} {g w start end : ℕ} {st′ wk′ : List ℕ} {i
       var-is = sym (var-at x) ∙ ap var literal
 
       of : x / 2 ≡ valueIn st′ (codeAt ix i / 2) / 2
-      of = var-is ∙ value-var (stateIn st′) (literalAt (codeAt ix i)) ∙ ap (λ (k : ℕ). var (stateIn st′ k)) (var-at (codeAt ix i)) ∙
+      of = var-is ∙ value-variable (stateIn st′) (literalAt (codeAt ix i)) ∙ ap (λ (k : ℕ). var (stateIn st′ k)) (var-at (codeAt ix i)) ∙
           ap var (stateOf-inside (tallyOf st′ .values) (codeAt ix i / 2) (omega (arith, known))) ∙ var-at (valueIn st′ (codeAt ix i / 2))
 
       pub stands : Standing ix st′ wk′ x

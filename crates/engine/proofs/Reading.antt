@@ -16,7 +16,8 @@ use Rattle.theory.proofs.Clauses.{mem-occurs}
 use Rattle.occurrences.specs.Index.{clauseCount, codeAt, startAt}
 use Rattle.tally.specs.Tally.{tallyOf, stateIn, valueIn}
 use Rattle.moves.specs.Sound.{Sound}
-use Rattle.gather.proofs.Written.{value-variable, stands-for}
+use Rattle.theory.proofs.States.{value-variable}
+use Rattle.gather.proofs.Written.{stands-for}
 use Rattle.pairs.proofs.Reading.{rest-none, rest-cons}
 use Rattle.engine.specs.Reading.{Legible, written, rest, Opens, FirstOpen, OpenCode}
 

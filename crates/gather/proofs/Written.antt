@@ -1,5 +1,5 @@
 -- A clause as it stands mentions root r exactly when a variable of the class of r stands in it; a count says which clauses are wide.
-use mathlib.Core.Path.{_≡_, refl, ap, sym, _∙_}
+use mathlib.Core.Path.{_≡_, ap, sym, _∙_}
 use mathlib.Core.Bool.{true}
 use mathlib.Core.List.{List, List·Memᴰ}
 use Prim.Native.Nat.{ℕ, _+_, _*_, _/_, _≤_, _<_}
@@ -13,8 +13,8 @@ use Rattle.literal.specs.declared.Literal.{Literal}
 use Rattle.literal.specs.declared.Literal.the-variants.{Pos, Neg}
 use Rattle.literal.specs.Literal.{var, literalAt, maxVariables}
 use Rattle.literal.proofs.Codes.{literalAt-codeOf, var-at}
-use Rattle.theory.specs.State.{State, value, standing}
-use Rattle.theory.proofs.Literals.{var-opposite}
+use Rattle.theory.specs.State.{value, standing}
+use Rattle.theory.proofs.States.{value-variable}
 use Rattle.theory.proofs.Clauses.{mem-occurs, occurs-mem, standing-mem, mem-standing}
 use Rattle.theory.proofs.Counts.{mentions, Wide, holds-mentions, mentions-holds}
 use Rattle.state.specs.State.{stateOf}
@@ -24,10 +24,6 @@ use Rattle.tally.specs.Tally.{tallyOf, stateIn, countIn}
 use Rattle.tally.specs.Counts.{Exact, oneTrue}
 use Rattle.tally.proofs.Standing.{count-wide, wide-three, wide-low}
 use Rattle.gather.specs.Gathering.{isWide, WideIn, Written}
-
-pub value-variable : (s : State) (l : Literal) → var (value s l) ≡ var (s (var l))
-value-variable s (Pos p) = refl
-value-variable s (Neg p) = var-opposite (s p)
 
 -- what variable q stands for
 pub stands-for : (v : List ℕ) (q : ℕ) → q ≤ maxVariables → var (stateOf v q) ≡ getD v q 0 / 2

@@ -5,7 +5,7 @@ ghost use lib.ListN.{getD};
 ghost use Rattle.notes.specs.Notes.{notesOf, withTodo, withTodoEnd, withRoot, withRootsEnd, withGathered, Whole};
 
 // Where the parts begin: clauses to look at from 0 on, how many, roots whose pairs are to be looked at, how many, gathered clauses.
-const TODO_END: usize = 2560;
+const NOTED_END: usize = 2560;
 
 const ROOTS: usize = 2561;
 
@@ -28,7 +28,7 @@ fn word(work: &Notes, i: usize) -> u16
 pub fn todo_end(work: &Notes) -> usize
     ensures { λ r. ⌜ r ≡ notesOf (now (work .entry)) .todoEnd ⌝ }
 {
-    word(work, TODO_END) as usize
+    word(work, NOTED_END) as usize
 }
 
 pub fn todo_at(work: &Notes, i: usize) -> u16
@@ -53,7 +53,7 @@ pub fn set_todo_end(work: &mut Notes, n: usize)
     ensures { λ _. ⌜ notesOf (now (work .exit)) ≡ withTodoEnd n (notesOf (now (work .entry))) ⌝ }
     ensures { λ _. ⌜ Whole (now (work .exit)) ⌝ }
 {
-    work[TODO_END] = n as u16;
+    work[NOTED_END] = n as u16;
 }
 
 // How many roots are listed for their pairs.

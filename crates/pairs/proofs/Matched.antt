@@ -23,7 +23,8 @@ use Rattle.occurrences.specs.Index.{Indexed, clauseCount, clauseOf, formulaOf}
 use Rattle.occurrences.proofs.Formulas.{index-before}
 use Rattle.tally.specs.Tally.{tallyOf, stateIn, valueIn}
 use Rattle.tally.specs.Ring.{Classes}
-use Rattle.gather.proofs.Written.{known, value-variable, stands-for}
+use Rattle.theory.proofs.States.{value-variable}
+use Rattle.gather.proofs.Written.{known, stands-for}
 use Rattle.pairs.specs.Meeting.{Marked, Like, Across, MetBy}
 use Rattle.pairs.specs.Pairing.{Falling, Tying}
 use Rattle.pairs.specs.declared.Met.the-variants.{Apart, Common, Crossed}

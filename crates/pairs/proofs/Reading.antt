@@ -14,7 +14,8 @@ use Rattle.theory.specs.Formula.{Clause}
 use Rattle.theory.specs.State.{value, standing}
 use Rattle.occurrences.specs.Index.{Indexed, clauseCount, clauseOf, codeAt, startAt}
 use Rattle.tally.specs.Tally.{tallyOf, stateIn}
-use Rattle.gather.proofs.Written.{value-variable, stands-for}
+use Rattle.theory.proofs.States.{value-variable}
+use Rattle.gather.proofs.Written.{stands-for}
 use Rattle.pairs.specs.Meeting.{Readable, Marked}
 use Rattle.pairs.proofs.Marks.{Marks, marks-begin, marks-go, marks-end}
 use Rattle.pairs.proofs.Meeting.{Meeting, meeting-begins, meeting-goes}

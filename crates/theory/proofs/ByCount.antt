@@ -2,8 +2,8 @@
 use mathlib.Core.Path.{_≡_, refl, ap, sym, _∙_}
 use mathlib.Core.Bool.{true}
 use mathlib.Core.Logic.{_⊎_, inl, inr, _≢_, ⊎-elim, _↔_}
-use mathlib.Core.List.{[], _∷_, List·Memᴰ, List·Memᴰ·head, List·Memᴰ·tail, List·Memᴰ·eq-of-singleton}
-use Prim.Native.Nat.{ℕ, _<_}
+use mathlib.Core.List.{[], _∷_, List·Memᴰ, List·Memᴰ·eq-of-singleton}
+use Prim.Native.Nat.{_<_}
 use native.Mathlib.Omega.{arith}
 use native.Mathlib.Decide.{decLt}
 use lib.ListN.{length}
@@ -14,14 +14,14 @@ use Rattle.literal.specs.Literal.{TRUE, FALSE, var, opposite}
 use Rattle.theory.specs.Formula.{Clause}
 use Rattle.theory.specs.State.{State, assign, standing}
 use Rattle.theory.specs.Rules.{occurs, live}
-use Rattle.theory.proofs.Literals.{opposite-opposite, var-opposite, opposite-ne, same-ne}
+use Rattle.theory.proofs.Literals.{opposite-opposite, var-opposite, opposite-ne}
 use Rattle.theory.proofs.Clauses.{mem-occurs, occurs-mem}
 use Rattle.theory.proofs.Closed.{NoFalse, Alive, Closed, met, resting, alive, Quiet, open-of, not-true-of, alive-live, alive-none-true}
 use Rattle.theory.proofs.Forms.{in-pair, closed-quiet}
 use Rattle.theory.proofs.Ties.{Ties, ties-turned}
 use Rattle.theory.proofs.Asks.{AsksOne, only-one, only-two, Unmeetable, standing-no-false}
 use Rattle.theory.proofs.Live.{live-alive}
-use Rattle.theory.proofs.Counts.{openCount, mentions, Distinct, Wide, mentions-holds, mentions-occurs, length-counted}
+use Rattle.theory.proofs.Counts.{openCount, Distinct, Wide, mentions-occurs, length-counted}
 use Rattle.theory.proofs.Recounts.{opens-decided, trues-decided}
 
 -- one true and nothing open; a literal, its opposite and no more; none true and three or more open literals of different variables
@@ -107,23 +107,6 @@ module _ {d : Clause} (a : Alive d) where
     none-true = alive-none-true a;
     three = omega (arith, a .three, length-counted d (λ x m e. omega (arith, a .opened x m, ap var e)), alive-none-true a);
   }
-
-  pub alive-distinct : Distinct d
-  alive-distinct p o = elim (decLt 1 (mentions p d)) [
-    | yes h ↦
-        let w = mentions-holds p d (omega arith) in
-        absurd (omega (arith, mentions-occurs (w .0) d, ap (λ (q : ℕ). mentions q d) (w .2), a .once (w .0), a .apart (w .0) (w .1)))
-    | no h ↦ omega arith
-  ]
-
--- and back: a clause that rules 1 to 6 do not fit has one of the three counts
-pub closed-counted : {d : Clause} → Closed d → ByCount d
-unfolding occurs count
-closed-counted met = all-true refl refl
-closed-counted (resting x o) =
-    let z : occurs TRUE (x ∷ opposite x ∷ []) ≡ 0 = rw (same-ne x TRUE (λ e. omega (arith, ap var e)), same-ne (opposite x) TRUE (λ e. omega (arith, ap var e, var-opposite x))) in
-    two-open x z (rw (var-opposite x, lt-ltb 0 (var x) o)) (List·Memᴰ·head refl) (List·Memᴰ·tail (List·Memᴰ·head refl))
-closed-counted (alive a) = three-open (alive-wide a) (alive-distinct a)
 
 -- such a clause is live exactly if it is wide
 pub live-counted : {d : Clause} → Closed d → (live d ≡ true) ↔ Wide d

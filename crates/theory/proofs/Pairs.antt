@@ -6,8 +6,7 @@ use mathlib.Core.Option.{Option, none, some}
 use mathlib.Core.List.{List·Memᴰ}
 use Prim.Native.Nat.{_<_}
 use native.Mathlib.Omega.{arith}
-use native.Mathlib.Decide.{ℕ-discrete}
-use Rattle.general.specs.Booleans.{and-true, and-intro}
+use Rattle.general.specs.Booleans.{and-true}
 use Rattle.general.specs.Lists.{Before}
 use Rattle.general.specs.Options.{cond-some}
 use Rattle.literal.specs.declared.Literal.{Literal}
@@ -18,11 +17,10 @@ use Rattle.theory.specs.declared.Step.{Step}
 use Rattle.theory.specs.declared.Step.the-variants.{DeadEnd, Becomes}
 use Rattle.theory.specs.Rules.{occurs, live, rule7, rule8}
 use Rattle.theory.proofs.Literals.{opposite-opposite, var-opposite}
-use Rattle.theory.proofs.Closed.{NoFalse, open-of, not-true-of, no-common, no-crossed}
+use Rattle.theory.proofs.Closed.{NoFalse, open-of, not-true-of}
 use Rattle.theory.proofs.Ties.{Ties, ties-opposite}
 use Rattle.theory.proofs.Asks.{common, crossed, Asks, by-two, Two, rule7-two, rule8-two, standing-no-false}
 use Rattle.theory.proofs.Stepped.{stood}
-use Rattle.theory.proofs.Idle.{live-before}
 
 -- rule 7 or 8 fits two clauses, which are both B, by a and b: b stands in one and its opposite in the other, a or its opposite in both
 pub record Meets (B : Clause → Type 0) (g h : Clause) (a b : Literal) : Type 0 where
@@ -78,14 +76,6 @@ module _ {B : Clause → Type 0} where
       apart = m .apart;
     }
 
-    -- two clauses that did not meet do so only by t
-    pub meets-by : ((a b : Literal) → ¬ Meets B (standing s g) (standing s h) a b) → (a b : Literal) →
-        Meets B (standing (assign x t s) g) (standing (assign x t s) h) a b → (var a ≡ var t) ⊎ (var b ≡ var t)
-    meets-by unmet a b m = elim (ℕ-discrete (var a) (var t)) [
-      | yes e ↦ inl e
-      | no e ↦ elim (ℕ-discrete (var b) (var t)) [ yes q ↦ inr q | no q ↦ absurd (unmet a b (meets-before m e q)) ]
-    ]
-
 -- the step of such a pair, whichever of its clauses comes first
 module _ {B : Clause → Type 0} (bare : (c : Clause) → B c → occurs TRUE c ≡ 0) {f : Formula} (s : State) (g h : Clause) (b : Before g h f ⊎ Before h g f) {x y : Literal}
     (m : Meets B (standing s g) (standing s h) x y) where
@@ -113,15 +103,6 @@ Live c = live c ≡ true
 abbrev pub NoPair : Clause → Clause → Type 0
 NoPair g h = (rule7 g h ≡ none) × (rule8 g h ≡ none)
 
-pub no-pair-meets : {g h : Clause} → NoPair g h → (a b : Literal) → ¬ Meets Live g h a b
-no-pair-meets {g} {h} n a b m = ⊎-elim
-    (λ k. no-common both-live (n .0) a b (m .left) k (m .crossing) (m .crossed-by) (m .apart))
-    (λ k. no-crossed both-live (n .1) a b (m .left) k (m .crossing) (m .crossed-by) (m .apart))
-    (m .right)
-  where
-    both-live : (live g && live h) ≡ true
-    both-live = and-intro (m .both .0) (m .both .1)
-
 module _ (g h : Clause) (f : NoFalse g) where
   two-meets : (st : Step) → Live g × Live h → Two g h st → (a : Literal) × (b : Literal) × Meets Live g h a b
   two-meets DeadEnd l k = absurd k
@@ -135,8 +116,3 @@ module _ (g h : Clause) (f : NoFalse g) where
       go : (o : Option Step) {r : Option Step} → r ≡ o → ((st : Step) → r ≡ some st → ((live g && live h) ≡ true) × Two g h st) → r ≡ none
       go none e k = e
       go (some st) e k = let w = k st e in let m = two-meets st (and-true (live g) (live h) (w .0)) (w .1) in absurd (unmet (m .0) (m .1) (m .2))
-
--- so two clauses that no rule fits are fitted after no constant, and after a tie only by its lower variable
-module _ (s : State) (x t : Literal) (opened : 0 < var x) (g h : Clause) (none-fits : NoPair (standing s g) (standing s h)) where
-  pub no-pair-step : (a b : Literal) → Meets Live (standing (assign x t s) g) (standing (assign x t s) h) a b → (var a ≡ var t) ⊎ (var b ≡ var t)
-  no-pair-step = meets-by s x t opened (live-before s x t opened) g h (no-pair-meets none-fits)

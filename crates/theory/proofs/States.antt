@@ -43,6 +43,11 @@ pub value-opposite : (s : State) (l : Literal) → value s (opposite l) ≡ oppo
 value-opposite s (Pos p) = refl
 value-opposite s (Neg p) = sym (opposite-opposite (s p))
 
+-- the variable of what a literal stands for is its variable's
+pub value-variable : (s : State) (l : Literal) → var (value s l) ≡ var (s (var l))
+value-variable s (Pos p) = refl
+value-variable s (Neg p) = var-opposite (s p)
+
 pub value-assign : (s : State) (x t l : Literal) → value (assign x t s) l ≡ replace x t (value s l)
 value-assign s x t (Pos p) = refl
 value-assign s x t (Neg p) = sym (replace-opposite x t (s p))

@@ -22,7 +22,8 @@ use Rattle.moves.specs.Deciding.{Decidable, Decided, Cleared}
 use Rattle.moves.proofs.Moves.{moved-refl}
 use Rattle.moves.proofs.Dying.{dies-in, fallen-dies}
 use Rattle.gather.specs.Gathering.{isWide}
-use Rattle.gather.proofs.Written.{value-variable, stands-for, known, wide-in}
+use Rattle.theory.proofs.States.{value-variable}
+use Rattle.gather.proofs.Written.{stands-for, known, wide-in}
 use Rattle.tie.specs.Doubling.{stood, Doubling, Undoubled}
 use Rattle.tie.proofs.Doubles.{twice-false, opposites-fall, clearing-mentions, only-mentions}
 
