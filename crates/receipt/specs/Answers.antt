@@ -10,8 +10,10 @@ use Rattle.receipt.specs.declared.Adding.{Adding}
 use Rattle.receipt.specs.declared.Adding.the-variants as adding
 use Rattle.receipt.specs.declared.Reading.{Reading}
 use Rattle.receipt.specs.declared.Reading.the-variants as reading
+use Rattle.receipt.specs.declared.Saving.{Saving}
+use Rattle.receipt.specs.declared.Saving.the-variants as saving
 use Rattle.receipt.specs.declared.Receipt.{Receipt}
-use Rattle.receipt.specs.Receipt.{outcomeNumber, receipt, refusedReceipt}
+use Rattle.receipt.specs.Receipt.{outcomeNumber, done, receipt, refusedReceipt}
 
 -- Settle: 13 settled, 10 no layout
 abbrev pub settlingReceipt : Settling → Receipt
@@ -52,3 +54,8 @@ readVariables (reading.Refused r) = 0
 abbrev pub readLength : Reading → ℕ
 readLength (reading.Read n u) = u
 readLength (reading.Refused r) = 0
+
+-- Save: 18 done; "where a strip or text is written, place is its length"
+abbrev pub savingReceipt : Saving → Receipt
+savingReceipt (saving.Saved k) = receipt done k 0
+savingReceipt (saving.Refused r) = refusedReceipt r

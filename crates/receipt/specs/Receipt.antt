@@ -1,7 +1,7 @@
--- The numbers on the receipt (document 01), each with its trade word.
+-- The numbers on the receipt (documents 01 and 02), each with its trade word.
 use Prim.Native.Nat.{ℕ}
 use Rattle.receipt.specs.declared.Fault.{Fault}
-use Rattle.receipt.specs.declared.Fault.the-variants.{TooManyVariables, TooManyClauses, TooManyLiterals, OpenClause, UnknownVariable, PlanShort, TrailShort, HeadsShort, ReceiptShort, UsedLengthWrong, StateShort, UnknownMark, CutStrip, OutOfTurn, TableShort, StripTooLong}
+use Rattle.receipt.specs.declared.Fault.the-variants.{TooManyVariables, TooManyClauses, TooManyLiterals, OpenClause, UnknownVariable, PlanShort, TrailShort, HeadsShort, ReceiptShort, UsedLengthWrong, StateShort, UnknownMark, CutStrip, OutOfTurn, TableShort, StripTooLong, StripShort}
 use Rattle.receipt.specs.declared.Outcome.{Outcome}
 use Rattle.receipt.specs.declared.Outcome.the-variants.{LaidOut, NoLayout, Stopped}
 use Rattle.receipt.specs.declared.Refusal.{Refusal}
@@ -40,12 +40,18 @@ numberOf OutOfTurn = 22
 numberOf TableShort = 23
 -- strip too long
 numberOf StripTooLong = 24
+-- strip room short
+numberOf StripShort = 25
 
 -- how a search ends: laid out, no layout, stopped
 abbrev pub outcomeNumber : Outcome → ℕ
 outcomeNumber LaidOut = 0
 outcomeNumber NoLayout = 10
 outcomeNumber Stopped = 11
+
+-- done: "Success is 18, done, here and in each later operation without an outcome of its own" (document 02)
+abbrev pub done : ℕ
+done = 18
 
 -- the one way to make a refusal
 abbrev pub refusal : Fault → ℕ → Refusal

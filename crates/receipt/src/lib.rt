@@ -1,9 +1,9 @@
 // What an operation answers, by cases, and what each answer puts on the receipt.
 ghost use mathlib.Core.Path.{_≡_};
 ghost use Rattle.receipt.specs.Receipt.{numberOf, outcomeNumber, refusal, refusedReceipt};
-ghost use Rattle.receipt.specs.Answers.{settlingReceipt, searchingReceipt, indexingReceipt, addingReceipt, addedLength, readingReceipt, readVariables, readLength};
+ghost use Rattle.receipt.specs.Answers.{settlingReceipt, searchingReceipt, indexingReceipt, addingReceipt, addedLength, readingReceipt, readVariables, readLength, savingReceipt};
 
-// Why a call is refused: the rows of document 01's table of numbers that refuse, in its order.
+// Why a call is refused: the rows of document 01's table of numbers that refuse, in its order, then those of document 02.
 pub enum Fault {
     TooManyVariables,
     TooManyClauses,
@@ -21,6 +21,7 @@ pub enum Fault {
     OutOfTurn,
     TableShort,
     StripTooLong,
+    StripShort,
 }
 
 impl Fault {
@@ -46,6 +47,7 @@ impl Fault {
             Fault::OutOfTurn => 22,
             Fault::TableShort => 23,
             Fault::StripTooLong => 24,
+            Fault::StripShort => 25,
         }
     }
 }
@@ -248,6 +250,31 @@ impl Reading {
         match answer {
             Reading::Read { variables: _, used } => used,
             Reading::Refused(_) => 0,
+        }
+    }
+}
+
+// Document 02's "18, done": the number of each of its operations that has no outcome of its own.
+const DONE: u32 = 18;
+
+// Save: the number of bytes written.
+pub enum Saving {
+    Saved(usize),
+    Refused(Refusal),
+}
+
+impl Saving {
+    pub fn receipt(self) -> Receipt
+        ensures { λ r. ⌜ r ≡ savingReceipt self ⌝ }
+    {
+        let answer = self;
+        match answer {
+            Saving::Saved(length) => Receipt {
+                number: DONE,
+                place: length,
+                count: 0,
+            },
+            Saving::Refused(refusal) => refusal.receipt(),
         }
     }
 }

@@ -34,3 +34,4 @@ pub mod Paths
 pub mod Filings
 pub mod SettledList
 pub mod Heads
+pub mod Encodings

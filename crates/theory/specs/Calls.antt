@@ -9,7 +9,7 @@ use Rattle.general.specs.Lists.{upTo}
 use Rattle.literal.specs.declared.Literal.{Literal}
 use Rattle.literal.specs.declared.Literal.the-variants.{Pos, Neg}
 use Rattle.literal.specs.Literal.{maxVariables, maxClauses, maxLiterals, maxTable}
-use Rattle.receipt.specs.declared.Fault.the-variants.{TooManyClauses, TooManyLiterals, UnknownVariable, PlanShort, TrailShort, HeadsShort, ReceiptShort, UsedLengthWrong, StateShort, TableShort}
+use Rattle.receipt.specs.declared.Fault.the-variants.{TooManyClauses, TooManyLiterals, UnknownVariable, PlanShort, TrailShort, HeadsShort, ReceiptShort, UsedLengthWrong, StateShort, TableShort, StripShort}
 use Rattle.receipt.specs.declared.Refusal.{Refusal}
 use Rattle.receipt.specs.declared.Checked.{Checked}
 use Rattle.receipt.specs.declared.Checked.the-variants.{Passed, Refused}
@@ -24,6 +24,8 @@ use Rattle.receipt.specs.declared.Adding.{Adding}
 use Rattle.receipt.specs.declared.Adding.the-variants as adding
 use Rattle.receipt.specs.declared.Reading.{Reading}
 use Rattle.receipt.specs.declared.Reading.the-variants as reading
+use Rattle.receipt.specs.declared.Saving.{Saving}
+use Rattle.receipt.specs.declared.Saving.the-variants as saving
 use Rattle.receipt.specs.declared.Receipt.{Receipt}
 use Rattle.receipt.specs.Receipt.{numberOf, refusal}
 use Rattle.receipt.specs.Answers.{searchingReceipt, readVariables}
@@ -36,6 +38,7 @@ use Rattle.theory.specs.Propagation.{Settled, dead, rest, settle}
 use Rattle.theory.specs.Tree.{Result}
 use Rattle.theory.specs.Search.{search, planOf, trailOf}
 use Rattle.theory.specs.Strip.{readStrip}
+use Rattle.theory.specs.Encoding.{savedStrip}
 
 -- the first n elements of a list, and "Elements not named are never changed"
 abbrev pub over : {A : Type 0} → ℕ → List A → List A → List A
@@ -160,6 +163,30 @@ pub record ReadCall : Type 0 where
 -- the table is written only where the whole strip passes
 unfoldable pub readCall : List ℕ → List ℤ → ReadCall
 readCall s t = let d = readStrip s (length t) in record { answer = d .reading; table = over (length (d .table)) (d .table) t }
+
+-- Save ------------------------------------------------------------------------------------------------------------
+
+pub record SaveCall : Type 0 where
+  pub answer : Saving
+  pub strip : List ℕ
+
+-- "On refusal the strip buffer is untouched"
+abbrev pub saveRefused : Refusal → List ℕ → SaveCall
+saveRefused r s = record { answer = saving.Refused r; strip = s }
+
+-- "past the written bytes it is untouched always"
+abbrev pub stripSaved : List ℕ → List ℕ → SaveCall
+stripSaved b s =
+    cond (ltb (length s) (length b)) (saveRefused (refusal StripShort 0) s)
+    (record { answer = saving.Saved (length b); strip = over (length b) b s })
+
+abbrev pub saveChecked : Checked → ℕ → List ℤ → List ℕ → SaveCall
+saveChecked (Refused r) n t s = saveRefused r s
+saveChecked Passed n t s = stripSaved (savedStrip n t) s
+
+-- "Turned away: 1 to 5 as for any table, then 25, strip room short."
+unfoldable pub saveCall : ℕ → List ℤ → List ℕ → SaveCall
+saveCall n t s = saveChecked (check n t) n t s
 
 -- Solving a strip: reading it, and searching what was read ---------------------------------------------------------
 

@@ -2,7 +2,7 @@
 use mathlib.Core.Path.{_≡_}
 use mathlib.Core.Bool.{cond}
 use mathlib.Core.List.{List, [], _∷_, _++_, map}
-use Prim.Native.Nat.{ℕ, _+_, _/_, _%_, _≤_, _<_}
+use Prim.Native.Nat.{ℕ, _+_, _*_, _/_, _%_, _≤_, _<_}
 use lib.Dec.{eqb}
 use lib.IntN.{ℤ, pos}
 use lib.ListN.{length, getD}
@@ -10,7 +10,7 @@ use Rattle.literal.specs.declared.Literal.the-variants.{Pos, Neg}
 use Rattle.literal.specs.Literal.{entryOf, maxVariables, maxClauses, maxLiterals}
 use Rattle.theory.specs.declared.Mark.{Mark}
 use Rattle.theory.specs.declared.Mark.the-variants.{Placements, Chapter, Opens, Taken, LeftOut, Closes, Ends}
-use Rattle.theory.specs.Formula.{Clause, Formula, Within}
+use Rattle.theory.specs.Formula.{Clause, Formula, clauses, Within}
 use Rattle.theory.specs.Strip.{byteOf, operandBytes, maxStrip}
 
 -- what stands between the placements and the end: a chapter with its number, or a group
@@ -57,6 +57,22 @@ tableOf (c ∷ f) = map entryOf c ++ (pos 0 ∷ tableOf f)
 unfoldable pub entries : Formula → ℕ
 entries [] = 0
 entries (c ∷ f) = length c + entries f
+
+-- Saving ----------------------------------------------------------------------------------------------------------
+
+-- A1: "Write a strip from a table: placements, each group in table order, no chapter marks, the end."
+unfoldable pub savedStrip : ℕ → List ℤ → List ℕ
+savedStrip n t = encode n (map group (clauses t))
+
+-- how long it is: three bytes for the placements and one for the end, two for each group, three for each entry
+abbrev pub savedLength : ℕ → ℕ → ℕ
+savedLength c l = 4 + 2 * c + 3 * l
+
+-- "a strip without chapter marks"
+abbrev pub Unchaptered : List ℕ → Type 0
+Unchaptered s = (n : ℕ) × (f : Formula) × (s ≡ encode n (map group f))
+
+-- Limits ----------------------------------------------------------------------------------------------------------
 
 -- a strip within the limits, of n placements and these chapters and groups
 pub record StripWithin (s : List ℕ) (n : ℕ) (l : List Item) : Type 0 where

@@ -1,0 +1,16 @@
+-- `Saving::receipt` meets its contract.
+use mathlib.Core.Path.{ap, sym, _∙_}
+use borrow.Author.Needs.{needs}
+use Rattle.receipt.specs.Answers.{savingReceipt}
+use Rattle.receipt.proofs.Saving.receipt.Statement.{statement}
+use Rattle.receipt.proofs.Saving.receipt.Tie as tie
+
+pub receipt-spec : {M : Type 1} → statement M
+receipt-spec =
+    tie.close
+    (tie.spec
+    (λ c. search needs)
+    (λ c. search needs)
+    (λ c κs. search needs)
+    (λ c. sym (ap savingReceipt (c .before .answer .given .1)))
+    (λ c. c .receipt .ensures ∙ sym (ap savingReceipt (c .before .before .answer2 .given .1))))

@@ -1,0 +1,125 @@
+-- Tables and formulas are two faces of one filing, so are strips and their items; and how long a saved strip is.
+use mathlib.Core.Path.{_≡_, refl, ap, sym, _∙_}
+use mathlib.Core.Bool.{Bool, true, false}
+use mathlib.Core.List.{List, [], _∷_, _++_, map, List·Memᴰ, List·Memᴰ·head, List·Memᴰ·tail}
+use Prim.Native.Nat.{ℕ, zero, suc, _+_, _*_, _/_, _%_, _<_, _≤_}
+use native.Mathlib.Omega.{arith}
+use lib.Dec.{eqb·suc-zero}
+use lib.IntN.{ℤ, negsuc, pos as posℤ}
+use lib.ListN.{length, getD, drop, length-append}
+use Rattle.literal.specs.declared.Literal.{Literal}
+use Rattle.literal.specs.declared.Literal.the-variants.{Pos, Neg}
+use Rattle.literal.specs.Literal.{var, entryOf}
+use Rattle.theory.specs.declared.Mark.the-variants.{Closes}
+use Rattle.theory.specs.Formula.{Clause, Formula, clauses}
+use Rattle.theory.specs.Strip.{byteOf, maxStrip}
+use Rattle.theory.specs.Table.{zeros, nonzeros, endsOpen, Accepted}
+use Rattle.theory.specs.Encoding.{Item, chapter, group, entryBytes, itemBytes, encode, groups, tableOf, entries, savedStrip, savedLength}
+use Rattle.theory.proofs.Tables.{first-clause, accepted-closed, accepted-sizes}
+use Rattle.theory.proofs.Heads.{clauses-zeros}
+
+-- tables and formulas -------------------------------------------------------------------------------------------------
+
+-- b says whether the element before is an entry
+pub table-clauses : (b : Bool) (t : List ℤ) → endsOpen b t ≡ false → tableOf (clauses t) ≡ t
+unfolding endsOpen clauses tableOf
+table-clauses b [] h = refl
+table-clauses b (posℤ zero ∷ t) h = ap (_∷_ (posℤ 0)) (table-clauses false t h)
+table-clauses b (posℤ (suc p) ∷ t) h =
+    let k = rw (eqb·suc-zero p) at h in
+    let w = first-clause t k in
+    rw (w .2) (ap (_∷_ (posℤ (suc p))) (sym (ap tableOf (w .2)) ∙ table-clauses true t k))
+table-clauses b (negsuc p ∷ t) h =
+    let k = rw (eqb·suc-zero p) at h in
+    let w = first-clause t k in
+    rw (w .2) (ap (_∷_ (negsuc p)) (sym (ap tableOf (w .2)) ∙ table-clauses true t k))
+
+row-clauses : (c : Clause) (u : List ℤ) → ((l : Literal) → List·Memᴰ l c → 0 < var l) → clauses (map entryOf c ++ (posℤ 0 ∷ u)) ≡ c ∷ clauses u
+unfolding clauses
+row-clauses [] u h = refl
+row-clauses (Pos zero ∷ c) u h = absurd (omega (arith, h (Pos 0) (List·Memᴰ·head refl)))
+row-clauses (Neg zero ∷ c) u h = absurd (omega (arith, h (Neg 0) (List·Memᴰ·head refl)))
+row-clauses (Pos (suc p) ∷ c) u h = rw (row-clauses c u (λ l m. h l (List·Memᴰ·tail m)))
+row-clauses (Neg (suc p) ∷ c) u h = rw (row-clauses c u (λ l m. h l (List·Memᴰ·tail m)))
+
+pub clauses-table : (f : Formula) → ((c : Clause) (l : Literal) → List·Memᴰ c f → List·Memᴰ l c → 0 < var l) → clauses (tableOf f) ≡ f
+unfolding clauses tableOf
+clauses-table [] h = refl
+clauses-table (c ∷ f) h =
+    row-clauses c (tableOf f) (λ l. h c l (List·Memᴰ·head refl)) ∙ ap (_∷_ c) (clauses-table f (λ d l m. h d l (List·Memᴰ·tail m)))
+
+-- strips and items ----------------------------------------------------------------------------------------------------
+
+pub groups-only : (f : Formula) → groups (map group f) ≡ f
+unfolding groups
+groups-only [] = refl
+groups-only (c ∷ f) = ap (_∷_ c) (groups-only f)
+
+-- the first bytes of two lists of bytes that are the same
+abbrev byte : ℕ → List ℕ → ℕ
+byte k s = getD s k 0
+
+word-same : (b c v w : ℕ) (x y : List ℕ) → b ∷ v / 256 ∷ v % 256 ∷ x ≡ c ∷ w / 256 ∷ w % 256 ∷ y → v ≡ w
+word-same b c v w x y e = omega (arith, ap (byte 1) e, ap (byte 2) e)
+
+entries-same : (c d : Clause) (x y : List ℕ) → entryBytes c ++ (byteOf Closes ∷ x) ≡ entryBytes d ++ (byteOf Closes ∷ y) → (c ≡ d) × (x ≡ y)
+unfolding entryBytes
+entries-same [] [] x y e = (refl, ap (drop 1) e)
+entries-same [] (Pos q ∷ d) x y e = absurd (omega (arith, ap (byte 0) e))
+entries-same [] (Neg q ∷ d) x y e = absurd (omega (arith, ap (byte 0) e))
+entries-same (Pos p ∷ c) [] x y e = absurd (omega (arith, ap (byte 0) e))
+entries-same (Pos p ∷ c) (Pos q ∷ d) x y e = let r = entries-same c d x y (ap (drop 3) e) in (rw (word-same _ _ p q _ _ e, r .0), r .1)
+entries-same (Pos p ∷ c) (Neg q ∷ d) x y e = absurd (omega (arith, ap (byte 0) e))
+entries-same (Neg p ∷ c) [] x y e = absurd (omega (arith, ap (byte 0) e))
+entries-same (Neg p ∷ c) (Pos q ∷ d) x y e = absurd (omega (arith, ap (byte 0) e))
+entries-same (Neg p ∷ c) (Neg q ∷ d) x y e = let r = entries-same c d x y (ap (drop 3) e) in (rw (word-same _ _ p q _ _ e, r .0), r .1)
+
+items-same : (l k : List Item) → itemBytes l ≡ itemBytes k → l ≡ k
+unfolding itemBytes
+items-same [] [] e = refl
+items-same [] (chapter b ∷ k) e = absurd (omega (arith, ap (byte 0) e))
+items-same [] (group d ∷ k) e = absurd (omega (arith, ap (byte 0) e))
+items-same (chapter a ∷ l) [] e = absurd (omega (arith, ap (byte 0) e))
+items-same (chapter a ∷ l) (chapter b ∷ k) e = let q : a ≡ b = ap (byte 1) e in rw (q, items-same l k (ap (drop 2) e))
+items-same (chapter a ∷ l) (group d ∷ k) e = absurd (omega (arith, ap (byte 0) e))
+items-same (group c ∷ l) [] e = absurd (omega (arith, ap (byte 0) e))
+items-same (group c ∷ l) (chapter b ∷ k) e = absurd (omega (arith, ap (byte 0) e))
+items-same (group c ∷ l) (group d ∷ k) e = let r = entries-same c d (itemBytes l) (itemBytes k) (ap (drop 1) e) in rw (r .0, items-same l k (r .1))
+
+-- a strip has one reading by its grammar
+pub encode-injective : (n m : ℕ) (l k : List Item) → encode n l ≡ encode m k → (n ≡ m) × (l ≡ k)
+encode-injective n m l k e = (word-same _ _ n m _ _ e, items-same l k (ap (drop 3) e))
+
+-- the length of a saved strip -----------------------------------------------------------------------------------------
+
+entries-nonzeros : (b : Bool) (t : List ℤ) → endsOpen b t ≡ false → entries (clauses t) ≡ nonzeros t
+unfolding endsOpen clauses entries nonzeros
+entries-nonzeros b [] h = refl
+entries-nonzeros b (posℤ zero ∷ t) h = omega (arith, entries-nonzeros false t h)
+entries-nonzeros b (posℤ (suc p) ∷ t) h =
+    let k = rw (eqb·suc-zero p) at h in
+    let w = first-clause t k in
+    rw (w .2, eqb·suc-zero p) (omega (arith, ap entries (w .2), entries-nonzeros true t k))
+entries-nonzeros b (negsuc p ∷ t) h =
+    let k = rw (eqb·suc-zero p) at h in
+    let w = first-clause t k in
+    rw (w .2, eqb·suc-zero p) (omega (arith, ap entries (w .2), entries-nonzeros true t k))
+
+entry-length : (c : Clause) → length (entryBytes c) ≡ 3 * length c
+unfolding entryBytes
+entry-length [] = refl
+entry-length (Pos p ∷ c) = omega (arith, entry-length c)
+entry-length (Neg p ∷ c) = omega (arith, entry-length c)
+
+item-length : (f : Formula) → length (itemBytes (map group f)) ≡ 1 + 2 * length f + 3 * entries f
+unfolding itemBytes entries
+item-length [] = refl
+item-length (c ∷ f) = omega (arith, length-append (entryBytes c) (byteOf Closes ∷ itemBytes (map group f)), entry-length c, item-length f)
+
+pub saved-length : (n : ℕ) (t : List ℤ) → endsOpen false t ≡ false → length (savedStrip n t) ≡ savedLength (zeros t) (nonzeros t)
+unfolding savedStrip
+saved-length n t h = omega (arith, item-length (clauses t), clauses-zeros t, entries-nonzeros false t h)
+
+-- no saved strip is "over 16,384 bytes"
+pub saved-short : (n : ℕ) (t : List ℤ) → Accepted n t → length (savedStrip n t) ≤ maxStrip
+saved-short n t a = let w = accepted-sizes n t a in omega (arith, saved-length n t (accepted-closed n t a), w .clauses, w .literals)
