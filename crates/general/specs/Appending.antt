@@ -1,10 +1,11 @@
--- Appending to what stands at the start of a list: nothing, and one list after another.
-use mathlib.Core.Path.{_≡_, ap, sym, _∙_}
-use mathlib.Core.List.{List, [], _++_, append-assoc}
-use Prim.Native.Nat.{ℕ, _+_, _≤_}
+-- Appending to what stands at the start of a list: nothing, one element, and one list after another.
+use mathlib.Core.Path.{_≡_, refl, ap, sym, _∙_}
+use mathlib.Core.List.{List, [], _∷_, _++_, append-assoc}
+use Prim.Native.Nat.{ℕ, _+_, _≤_, _<_}
+use native.Mathlib.Numerals.{add-one}
 use native.Mathlib.Omega.{arith}
-use lib.ListN.{length, take, drop, length-append, length-drop, take-append-drop}
-use lib.Seq.{length-take-le, take-at, drop-append-add, drop-drop}
+use lib.ListN.{length, take, drop, set, length-append, length-drop, take-append-drop}
+use lib.Seq.{length-take-le, take-at, drop-append-add, drop-drop, set-split}
 
 module _ {A : Type 0} where
   -- after the first `at` elements stands `new`, which ends at index `next`; all others are as they were
@@ -15,6 +16,9 @@ module _ {A : Type 0} where
 
   pub append-nothing : (l : List A) (at : ℕ) → at ≤ length l → Appended l at [] l at
   append-nothing l at h = record { ends = omega arith; room = h; whole = sym (take-append-drop at l) }
+
+  pub append-one : (l : List A) (at : ℕ) (x : A) → at < length l → Appended l at (x ∷ []) (set l at x) (at + 1)
+  append-one l at x h = record { ends = refl; room = omega arith; whole = rw (add-one, set-split l at x h) }
 
   -- what was appended, with what stood before it
   abbrev head : List A → ℕ → List A → List A

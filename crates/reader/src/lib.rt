@@ -3,7 +3,8 @@ ghost use mathlib.Core.Option.{some};
 ghost use mathlib.Core.Path.{_≡_};
 ghost use Prim.Native.Nat.{_+_, _*_, _<_};
 ghost use lib.ListN.{length};
-ghost use Rattle.theory.specs.Strip.{operandBytes, turnOf, same, operandAt, commandOf, commandAt};
+ghost use Rattle.theory.specs.Strip.{turnOf, same, operandAt, commandOf, commandAt};
+use mark::Found;
 use receipt::Fault;
 use receipt::Refusal;
 use theory::Command;
@@ -24,21 +25,6 @@ fn turn_of(mark: Mark) -> Turn
         Mark::LeftOut => Turn::Inside,
         Mark::Closes => Turn::Inside,
         Mark::Ends => Turn::Outside,
-    }
-}
-
-// The number of bytes of a command's operand.
-fn operand_bytes(mark: Mark) -> usize
-    ensures { λ r. ⌜ r ≡ operandBytes mark ⌝ }
-{
-    match mark {
-        Mark::Placements => 2,
-        Mark::Chapter => 1,
-        Mark::Opens => 0,
-        Mark::Taken => 2,
-        Mark::LeftOut => 2,
-        Mark::Closes => 0,
-        Mark::Ends => 0,
     }
 }
 
@@ -99,7 +85,7 @@ fn command_of(strip: &[u8], at: usize, turn: Turn, mark: Mark) -> Command
     ensures { λ r. ⌜ r ≡ commandOf (now (strip .entry)) at turn (some mark) ⌝ }
 {
     let in_turn = same(turn, turn_of(mark));
-    let size = operand_bytes(mark);
+    let size = mark::operand_bytes(mark);
     let whole = size < strip.len() - at;
     if !in_turn {
         return Command::Refused(Refusal::new(Fault::OutOfTurn, at));
@@ -115,16 +101,10 @@ fn command_at(strip: &[u8], at: usize, turn: Turn) -> Command
     requires { ⌜ at < length (now strip) ⌝ }
     ensures { λ r. ⌜ r ≡ commandAt (now (strip .entry)) at turn ⌝ }
 {
-    let byte = strip[at];
-    match byte {
-        0x50 => command_of(strip, at, turn, Mark::Placements),
-        0x43 => command_of(strip, at, turn, Mark::Chapter),
-        0x47 => command_of(strip, at, turn, Mark::Opens),
-        0x54 => command_of(strip, at, turn, Mark::Taken),
-        0x4C => command_of(strip, at, turn, Mark::LeftOut),
-        0x45 => command_of(strip, at, turn, Mark::Closes),
-        0x5A => command_of(strip, at, turn, Mark::Ends),
-        _ => Command::Refused(Refusal::new(Fault::UnknownMark, at)),
+    let found = mark::of_byte(strip[at]);
+    match found {
+        Found::Mark(mark) => command_of(strip, at, turn, mark),
+        Found::Nothing => Command::Refused(Refusal::new(Fault::UnknownMark, at)),
     }
 }
 

@@ -14,7 +14,7 @@ use Rattle.theory.specs.declared.Mark.the-variants.{Closes}
 use Rattle.theory.specs.Formula.{Clause, Formula, clauses}
 use Rattle.theory.specs.Strip.{byteOf, maxStrip}
 use Rattle.theory.specs.Table.{zeros, nonzeros, endsOpen, Accepted}
-use Rattle.theory.specs.Encoding.{Item, chapter, group, entryBytes, itemBytes, encode, groups, tableOf, entries, savedStrip, savedLength}
+use Rattle.theory.specs.Encoding.{Item, chapter, group, entryBytes, itemBytes, encode, groups, tableOf, entries, savedStrip, savedLength, maxSaved}
 use Rattle.theory.proofs.Tables.{first-clause, accepted-closed, accepted-sizes}
 use Rattle.theory.proofs.Heads.{clauses-zeros}
 
@@ -105,7 +105,7 @@ entries-nonzeros b (negsuc p ∷ t) h =
     let w = first-clause t k in
     rw (w .2, eqb·suc-zero p) (omega (arith, ap entries (w .2), entries-nonzeros true t k))
 
-entry-length : (c : Clause) → length (entryBytes c) ≡ 3 * length c
+pub entry-length : (c : Clause) → length (entryBytes c) ≡ 3 * length c
 unfolding entryBytes
 entry-length [] = refl
 entry-length (Pos p ∷ c) = omega (arith, entry-length c)
@@ -120,6 +120,10 @@ pub saved-length : (n : ℕ) (t : List ℤ) → endsOpen false t ≡ false → l
 unfolding savedStrip
 saved-length n t h = omega (arith, item-length (clauses t), clauses-zeros t, entries-nonzeros false t h)
 
--- no saved strip is "over 16,384 bytes"
+-- the longest is of a table at the limits
+pub saved-most : (n : ℕ) (t : List ℤ) → Accepted n t → length (savedStrip n t) ≤ maxSaved
+saved-most n t a = let w = accepted-sizes n t a in omega (arith, saved-length n t (accepted-closed n t a), w .clauses, w .literals)
+
+-- none is "over 16,384 bytes"
 pub saved-short : (n : ℕ) (t : List ℤ) → Accepted n t → length (savedStrip n t) ≤ maxStrip
-saved-short n t a = let w = accepted-sizes n t a in omega (arith, saved-length n t (accepted-closed n t a), w .clauses, w .literals)
+saved-short n t a = omega (arith, saved-most n t a)

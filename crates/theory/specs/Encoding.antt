@@ -68,6 +68,9 @@ savedStrip n t = encode n (map group (clauses t))
 abbrev pub savedLength : ℕ → ℕ → ℕ
 savedLength c l = 4 + 2 * c + 3 * l
 
+abbrev pub maxSaved : ℕ
+maxSaved = savedLength maxClauses maxLiterals
+
 -- "a strip without chapter marks"
 abbrev pub Unchaptered : List ℕ → Type 0
 Unchaptered s = (n : ℕ) × (f : Formula) × (s ≡ encode n (map group f))

@@ -1,0 +1,42 @@
+-- The ways in which a call of Save ends, as `saveCall` has them.
+use mathlib.Core.Path.{_≡_, ap, sym, _∙_}
+use mathlib.Core.List.{List}
+use Prim.Native.Nat.{ℕ, _≤_, _<_}
+use native.Mathlib.Omega.{arith}
+use borrow.Author.Tests.{lt-ltb, le-ltb}
+use lib.IntN.{ℤ}
+use lib.ListN.{length}
+use Rattle.general.specs.Appending.{Appended}
+use Rattle.receipt.specs.declared.Checked.the-variants as checked
+use Rattle.receipt.specs.declared.Fault.the-variants.{StripShort}
+use Rattle.receipt.specs.declared.Refusal.{Refusal}
+use Rattle.receipt.specs.declared.Saving.the-variants.{Saved, Refused}
+use Rattle.receipt.specs.Receipt.{refusal}
+use Rattle.theory.specs.Table.{zeros, nonzeros, check, Accepted}
+use Rattle.theory.specs.Encoding.{savedStrip, savedLength}
+use Rattle.theory.specs.Calls.{over, saveCall}
+use Rattle.theory.proofs.Tables.{accepted-closed}
+use Rattle.theory.proofs.Encodings.{saved-length}
+use Rattle.save.specs.Save.{called}
+
+module _ (n : ℕ) (t : List ℤ) (s : List ℕ) where
+  pub call-refused : (r : Refusal) → check n t ≡ checked.Refused r → called (Refused r) s ≡ saveCall n t s
+  unfolding saveCall
+  call-refused r e = rw e
+
+  module _ (a : Accepted n t) where
+    bytes : length (savedStrip n t) ≡ savedLength (zeros t) (nonzeros t)
+    bytes = saved-length n t (accepted-closed n t a)
+
+    pub call-short : length s < savedLength (zeros t) (nonzeros t) → called (Refused (refusal StripShort 0)) s ≡ saveCall n t s
+    unfolding saveCall
+    call-short h = rw (a, lt-ltb (length s) (length (savedStrip n t)) (omega (arith, bytes)))
+
+    pub has-room : savedLength (zeros t) (nonzeros t) ≤ length s → length (savedStrip n t) ≤ length s
+    has-room h = omega (arith, bytes)
+
+    pub call-saved : savedLength (zeros t) (nonzeros t) ≤ length s → (s′ : List ℕ) (k : ℕ) → Appended s 0 (savedStrip n t) s′ k → called (Saved k) s′ ≡ saveCall n t s
+    unfolding saveCall
+    call-saved h s′ k p =
+        let e : k ≡ length (savedStrip n t) = omega (arith, p .ends) in
+        rw (p .whole, e, a, le-ltb (length s) (length (savedStrip n t)) (has-room h))
