@@ -14,8 +14,8 @@ use lib.ListN.{length, getD, drop, length-append, length-drop}
 use lib.Seq.{drop-cons, drop-drop, drop-append-seam, getD-drop}
 use Rattle.general.specs.Booleans.{cond-ind}
 use Rattle.general.specs.Search.{find, find-some}
-use Rattle.receipt.specs.declared.Fault.the-variants.{TableShort}
-use Rattle.receipt.specs.declared.Refusal.{Refusal}
+use Rattle.receipt.specs.declared.Fault.{Fault}
+use Rattle.receipt.specs.declared.Fault.the-variants.{TableShort, StripTooLong}
 use Rattle.receipt.specs.Receipt.{numberOf}
 use Rattle.theory.specs.declared.Mark.{Mark}
 use Rattle.theory.specs.declared.Mark.the-variants.{Placements, Chapter, Opens, Taken, LeftOut, Closes, Ends}
@@ -68,9 +68,9 @@ same-refl After = refl
 
 -- a command at an index ---------------------------------------------------------------------------------------------
 
--- 23 is no refusal of a command
-abbrev pub NotShort : Refusal → Type 0
-NotShort f = numberOf (f .fault) ≢ numberOf TableShort
+-- a fault of a command by itself: 23 is the room's, and 24 the whole strip's
+abbrev pub OfCommand : Fault → Type 0
+OfCommand why = (numberOf why ≢ numberOf TableShort) × (numberOf why ≢ numberOf StripTooLong)
 
 module _ (s : List ℕ) (i : ℕ) where
   pub record Stands (t : Turn) (m : Mark) (v next : ℕ) : Type 0 where
@@ -82,14 +82,14 @@ module _ (s : List ℕ) (i : ℕ) where
 
   abbrev pub Says : Turn → Command → Type 0
   Says t (command.Command m v next) = Stands t m v next
-  Says t (command.Refused f) = (f .place ≡ i) × NotShort f
+  Says t (command.Refused f) = (f .place ≡ i) × OfCommand (f .fault)
 
   pub command-says : (t : Turn) → Says t (commandAt s i t)
   unfolding commandAt
   command-says t = go (markOf (getD s i 0)) refl
     where
       go : (o : Option Mark) → markOf (getD s i 0) ≡ o → Says t (commandOf s i t o)
-      go none q = (refl, λ z. omega arith)
+      go none q = (refl, (λ z. omega arith, λ z. omega arith))
       go (some m) q = cond-ind (Says t) _ _ (same t (turnOf m))
           (λ a. cond-ind (Says t) _ _ (leb (i + 1 + operandBytes m) (length s))
           (λ b. record {
@@ -99,8 +99,8 @@ module _ (s : List ℕ) (i : ℕ) where
             further = refl;
             long = leb-true (i + 1 + operandBytes m) (length s) b;
           })
-          (λ b. (refl, λ z. omega arith)))
-          (λ a. (refl, λ z. omega arith))
+          (λ b. (refl, (λ z. omega arith, λ z. omega arith))))
+          (λ a. (refl, (λ z. omega arith, λ z. omega arith)))
 
   pub command-stands : {t : Turn} {m : Mark} {v next : ℕ} → command.Command m v next ≡ commandAt s i t → Stands t m v next
   command-stands {t = t} e = rw (← e) at (command-says t)

@@ -1,2 +1,4 @@
 pub mod Elements
 pub mod Calling
+pub mod RoundTrip
+pub mod Promises

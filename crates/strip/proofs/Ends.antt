@@ -4,7 +4,8 @@ use mathlib.Core.Path.{_≡_, refl, ap, sym, subst}
 use mathlib.Core.Bool.{Bool, true, false, cond}
 use mathlib.Core.Logic.{_≢_}
 use mathlib.Core.List.{List, [], _∷_, _++_, append-nil, List·Memᴰ·not-nil}
-use Prim.Native.Nat.{ℕ, zero, suc, _+_, _≤_}
+use Prim.Native.Nat.{ℕ, zero, suc, _+_, _≤_, _<_}
+use native.Mathlib.Decide.{decLt}
 use native.Mathlib.Nat.{add-zero}
 use native.Mathlib.Omega.{arith}
 use borrow.Author.Tests.{ltb-true, ltb-false}
@@ -13,7 +14,7 @@ use lib.IntN.{ℤ}
 use lib.ListN.{length, length-append, drop-of-length-le}
 use Rattle.general.specs.Booleans.{cond-ind}
 use Rattle.literal.specs.Literal.{maxTable}
-use Rattle.receipt.specs.declared.Fault.the-variants.{CutStrip, TableShort}
+use Rattle.receipt.specs.declared.Fault.the-variants.{CutStrip, TableShort, StripTooLong}
 use Rattle.receipt.specs.declared.Refusal.{Refusal}
 use Rattle.receipt.specs.declared.Reading.{Reading}
 use Rattle.receipt.specs.declared.Reading.the-variants.{Read, Refused}
@@ -30,14 +31,15 @@ use Rattle.theory.specs.declared.Obeyed.{Obeyed}
 use Rattle.theory.specs.declared.Obeyed.the-variants as obeyed
 use Rattle.theory.specs.Strip.{turnOf, same, nothingRead, obey, Decoding, storing, onward, follow, finish, readFrom, commandAt, maxStrip, readStrip}
 use Rattle.theory.specs.Encoding.{tableOf, entries}
-use Rattle.reader.proofs.Commands.{same-turn, NotShort, Says, command-says, command-bytes}
+use Rattle.reader.proofs.Commands.{same-turn, Says, command-says, command-bytes}
 use Rattle.strip.proofs.Sound.{Sound, begun-sound, elements, with, Left, Keeps, obey-keeps}
 
 module _ (s : List ℕ) (room : ℕ) where
   -- from index i on, with t read before
   abbrev pub Ended : ℕ → Progress → List ℤ → Reading → List ℤ → Type 0
   Ended i p t (Read n u) T = (u ≡ length T) × (u ≤ room) × (length s ≤ maxStrip) × Left s i (p .turn) p t n T
-  Ended i p t (Refused f) T = (T ≡ []) × (f .place ≤ maxStrip) × (maxTable ≤ room → NotShort f)
+  Ended i p t (Refused f) T =
+      (T ≡ []) × (f .place ≤ maxStrip) × (maxTable ≤ room → numberOf (f .fault) ≢ numberOf TableShort) × (length s ≤ maxStrip → numberOf (f .fault) ≢ numberOf StripTooLong)
 
   abbrev Ends : ℕ → Progress → List ℤ → Decoding → Type 0
   Ends i p t d = Ended i p t (d .reading) (d .table)
@@ -64,7 +66,7 @@ module _ (s : List ℕ) (room : ℕ) where
             allows = record { variables = d .variables; clauses = omega (arith, d .clauses); literals = omega (arith, d .literals); known = λ c l m. absurd (List·Memᴰ·not-nil m) };
           }),
         )
-        go false e = (refl, short, λ w z. omega arith)
+        go false e = (refl, short, λ w z. omega arith, λ w z. omega arith)
 
     -- after a command, which the strip from next on goes on from
     module _ (k next : ℕ) (ih : (q : Progress) (t′ : List ℤ) → Sound q (length t′) → length t′ ≤ room → Ends next q t′ (readFrom s room k next q t′)) where
@@ -82,15 +84,15 @@ module _ (s : List ℕ) (room : ℕ) where
       stored q (Element x) g back = cond-ind (Ends i p t) _ _ (ltb (length t) room)
           (λ b. carried q (t ++ (x ∷ [])) back (readFrom s room k next q (t ++ (x ∷ [])))
           (ih q (t ++ (x ∷ [])) (rw (length-append t (x ∷ [])) g) (omega (arith, length-append t (x ∷ []), ltb-true (length t) room b))))
-          (λ b. (refl, placed, λ w z. omega (arith, ltb-false (length t) room b, g .elements, g .clauses, g .literals)))
+          (λ b. (refl, placed, λ w z. omega (arith, ltb-false (length t) room b, g .elements, g .clauses, g .literals), λ w z. omega arith))
 
       went : (u : Turn) → p .turn ≡ u → (o : Obeyed) → Keeps s i next p t u o → Ends i p t (onward s room (readFrom s room k next) i t o)
       went u e (obeyed.Goes q x) g = stored q x (g .0) (λ n T a. subst (λ (u : Turn). Left s i u p t n T) (sym e) (g .1 n T a))
-      went u e (obeyed.Refused why) g = (refl, placed, λ w. g)
+      went u e (obeyed.Refused why) g = (refl, placed, λ w. g .0, λ w. g .1)
 
   read-ends : length s ≤ maxStrip → (k i : ℕ) (p : Progress) (t : List ℤ) → Sound p (length t) → i ≤ length s → length t ≤ room → Ends i p t (readFrom s room k i p t)
   unfolding readFrom
-  read-ends short zero i p t d h fits = (refl, placed short i p t d h fits, λ w z. omega arith)
+  read-ends short zero i p t d h fits = (refl, placed short i p t d h fits, λ w z. omega arith, λ w z. omega arith)
   read-ends short (suc k) i p t d h fits =
       cond-ind (Ends i p t) _ _ (ltb i (length s))
       (λ l. followed (read-ends short k) (commandAt s i (p .turn)) (command-says s i (p .turn)))
@@ -100,13 +102,13 @@ module _ (s : List ℕ) (room : ℕ) where
           (c : Command) → Says s i (p .turn) c → Ends i p t (follow s room (readFrom s room k) i p t c)
       followed ih (command.Command m v next) c =
           went short i p t d h fits k next (λ q t′ d′. ih next q t′ d′ (c .long)) (turnOf m) (c .turn) (obey p v m) (obey-keeps s i next p t d m v (c .turn) (command-bytes s i c))
-      followed ih (command.Refused f) c = (refl, omega (arith, c .0), λ w. c .1)
+      followed ih (command.Refused f) c = (refl, omega (arith, c .0), λ w. c .1 .0, λ w. c .1 .1)
 
   -- the whole strip
   pub answered : Ended 0 nothingRead [] (readStrip s room .reading) (readStrip s room .table)
   unfolding readStrip
   answered = cond-ind (Ends 0 nothingRead []) _ _ (ltb maxStrip (length s))
-      (λ b. (refl, omega arith, λ w z. omega arith))
+      (λ b. (refl, omega arith, λ w z. omega arith, λ w z. omega (arith, ltb-true maxStrip (length s) b)))
       (λ b. read-ends (ltb-false maxStrip (length s) b) (suc (length s)) 0 nothingRead [] begun-sound (omega arith) (omega arith))
 
   pub refusal-bound : (f : Refusal) → readStrip s room .reading ≡ Refused f → f .place ≤ maxStrip
@@ -115,6 +117,13 @@ module _ (s : List ℕ) (room : ℕ) where
   -- "strip refusals except 23"
   pub never-short : (f : Refusal) → maxTable ≤ room → readStrip s room .reading ≡ Refused f → f .fault ≢ TableShort
   never-short f w e q = let a : Ended 0 nothingRead [] (Refused f) (readStrip s room .table) = rw e at answered in a .2 w (ap numberOf q)
+
+  -- 24 is for a strip "over 16,384 bytes" alone
+  pub too-long : (f : Refusal) → readStrip s room .reading ≡ Refused f → numberOf (f .fault) ≡ numberOf StripTooLong → maxStrip < length s
+  too-long f e q = elim (decLt maxStrip (length s)) [
+    | yes h ↦ h
+    | no h ↦ let a : Ended 0 nothingRead [] (Refused f) (readStrip s room .table) = rw e at answered in absurd (a .3 (omega arith) q)
+  ]
 
   -- the used length is the table's, and fits the room
   pub sized : (readLength (readStrip s room .reading) ≡ length (readStrip s room .table)) × (length (readStrip s room .table) ≤ room)

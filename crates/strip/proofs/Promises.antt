@@ -2,20 +2,23 @@
 use mathlib.Core.Path.{_≡_, refl, ap, sym, _∙_}
 use mathlib.Core.Logic.{_↔_}
 use mathlib.Core.List.{List, []}
-use Prim.Native.Nat.{ℕ, suc, _≤_}
+use Prim.Native.Nat.{ℕ, suc, _≤_, _<_}
 use native.Mathlib.Omega.{arith}
-use borrow.Author.Tests.{le-ltb}
+use borrow.Author.Tests.{lt-ltb, le-ltb}
 use lib.IntN.{ℤ}
 use lib.ListN.{length}
 use Rattle.general.specs.Booleans.{true-not-false}
+use Rattle.receipt.specs.declared.Fault.the-variants.{StripTooLong}
 use Rattle.receipt.specs.declared.Refusal.{Refusal}
 use Rattle.receipt.specs.declared.Reading.{Reading}
 use Rattle.receipt.specs.declared.Reading.the-variants.{Read, Refused}
+use Rattle.receipt.specs.Receipt.{numberOf}
+use Rattle.receipt.specs.Answers.{readingReceipt}
 use Rattle.theory.specs.Strip.{nothingRead, Decoding, maxStrip, readStrip}
 use Rattle.theory.specs.Encoding.{Item, groups, tableOf, StripWithin, Bytes}
 use Rattle.theory.specs.Calls.{over, ReadCall, readCall}
 use Rattle.strip.specs.Decoding.{called}
-use Rattle.strip.proofs.Ends.{Ended, answered}
+use Rattle.strip.proofs.Ends.{Ended, answered, too-long}
 use Rattle.strip.proofs.Encoded.{left-reads}
 
 -- a strip within the limits, and the table it stands for
@@ -51,6 +54,15 @@ module _ (s : List ℕ) (t : List ℤ) (r : Reading) (t′ : List ℤ) (is : cal
   read-refused-unchanged f e =
       let a : Ended s (length t) 0 nothingRead [] (Refused f) (readStrip s (length t) .table) = rw (sym reading-is ∙ e) at (answered s (length t)) in
       table-is ∙ rw (a .0)
+
+  -- "24 first": over 16,384 bytes, and at no other time
+  pub read-too-long : (readingReceipt r .number ≡ numberOf StripTooLong) ↔ (maxStrip < length s)
+  unfolding readStrip
+  read-too-long = (go r reading-is, λ h. rw (reading-is, lt-ltb maxStrip (length s) h))
+    where
+      go : (x : Reading) → x ≡ readStrip s (length t) .reading → readingReceipt x .number ≡ numberOf StripTooLong → maxStrip < length s
+      go (Read n u) q e = absurd (omega arith)
+      go (Refused f) q e = too-long s (length t) f (sym q) e
 
   -- "Every .. strip within the limits of document 01, with room lent for the results, is accepted", "Every other input is refused"
   pub accepted-exactly : Bytes s → (n u : ℕ) → (r ≡ Read n u) ↔ ((l : List Item) × StripWithin s n l × (u ≡ length (tableOf (groups l))) × (u ≤ length t))

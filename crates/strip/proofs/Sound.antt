@@ -2,7 +2,7 @@
 -- by its grammar, is what was left before it without the command.
 use mathlib.Core.Path.{_≡_, refl, subst, _∙_}
 use mathlib.Core.Bool.{Bool, true, false, _||_}
-use mathlib.Core.Logic.{_≢_, ⊎-elim}
+use mathlib.Core.Logic.{⊎-elim}
 use mathlib.Core.List.{List, [], _∷_, _++_, append-assoc, List·Memᴰ·not-nil, List·Memᴰ·cases-cons}
 use Prim.Native.Nat.{ℕ, _+_, _<_, _≤_}
 use native.Mathlib.Omega.{arith}
@@ -14,8 +14,6 @@ use Rattle.general.specs.Booleans.{true-not-false, cond-ind}
 use Rattle.literal.specs.declared.Literal.{Literal}
 use Rattle.literal.specs.declared.Literal.the-variants.{Pos, Neg}
 use Rattle.literal.specs.Literal.{var, entryOf, maxVariables, maxClauses, maxLiterals}
-use Rattle.receipt.specs.declared.Fault.the-variants.{TableShort}
-use Rattle.receipt.specs.Receipt.{numberOf}
 use Rattle.theory.specs.declared.Mark.{Mark}
 use Rattle.theory.specs.declared.Mark.the-variants.{Placements, Chapter, Opens, Taken, LeftOut, Closes, Ends}
 use Rattle.theory.specs.declared.Turn.{Turn}
@@ -29,6 +27,7 @@ use Rattle.theory.specs.Formula.{Clause, Formula}
 use Rattle.theory.specs.Strip.{turnOf, same, nothingRead, entered, obey}
 use Rattle.theory.specs.Encoding.{Item, chapter, group, commandBytes, entryBytes, itemBytes, encode, groups, tableOf, entries, Bytes}
 use Rattle.theory.proofs.Tables.{known-variable, InRange, push-range}
+use Rattle.reader.proofs.Commands.{OfCommand}
 
 -- inside a group its closing 0 is still to come
 abbrev pub pending : Turn → ℕ
@@ -88,7 +87,7 @@ module _ (s : List ℕ) where
   -- what obeying a mark at index i says of the strip from next on
   abbrev pub Keeps : ℕ → ℕ → Progress → List ℤ → Turn → Obeyed → Type 0
   Keeps i next p t u (Goes q e) = Sound q (length t + elements e) × ((n : ℕ) (T : List ℤ) → Left next (q .turn) q (with t e) n T → Left i u p t n T)
-  Keeps i next p t u (Refused why) = numberOf why ≢ numberOf TableShort
+  Keeps i next p t u (Refused why) = OfCommand why
 
 closed-range : (n : ℕ) (f : Formula) → InRange n f → InRange n ([] ∷ f)
 closed-range n f h c l mc ml = ⊎-elim (λ (q : c ≡ []). absurd (List·Memᴰ·not-nil (rw q at ml))) (λ m. h c l m ml) (List·Memᴰ·cases-cons mc)
@@ -99,7 +98,7 @@ module _ (s : List ℕ) (i next : ℕ) (p : Progress) (t : List ℤ) (d : Sound 
       (Bytes s → (c : Clause) (r : List ℕ) → drop next s ≡ entryBytes c ++ r → drop i s ≡ entryBytes (l ∷ c) ++ r) → Keeps s i next p t Inside (entered p l)
   unfolding tableOf entries
   entered-keeps e l c = cond-ind (Keeps s i next p t Inside) _ _ (eqb (var l) 0 || ltb (p .variables) (var l))
-      (λ b z. omega arith)
+      (λ b. (λ z. omega arith, λ z. omega arith))
       (λ b. cond-ind (Keeps s i next p t Inside) _ _ (ltb (p .literals) maxLiterals)
       (λ k. (
         record { variables = d .variables; clauses = d .clauses; literals = omega (arith, ltb-true (p .literals) maxLiterals k); elements = omega (arith, rw e at (d .elements)) },
@@ -119,12 +118,12 @@ module _ (s : List ℕ) (i next : ℕ) (p : Progress) (t : List ℤ) (d : Sound 
               };
             },
       ))
-      (λ k z. omega arith))
+      (λ k. (λ z. omega arith, λ z. omega arith)))
 
   pub obey-keeps : (m : Mark) (v : ℕ) → p .turn ≡ turnOf m → (Bytes s → drop i s ≡ commandBytes m v ++ drop next s) → Keeps s i next p t (turnOf m) (obey p v m)
   unfolding obey entryBytes itemBytes groups tableOf entries
   obey-keeps Placements v e c = cond-ind (Keeps s i next p t Start) _ _ (ltb maxVariables v)
-      (λ b z. omega arith)
+      (λ b. (λ z. omega arith, λ z. omega arith))
       (λ b. (
         record { variables = ltb-false maxVariables v b; clauses = d .clauses; literals = d .literals; elements = omega (arith, rw e at (d .elements)) },
         λ n T a. record {
@@ -159,7 +158,7 @@ module _ (s : List ℕ) (i next : ℕ) (p : Progress) (t : List ℤ) (d : Sound 
           allows = record { variables = k .variables; clauses = omega (arith, k .clauses); literals = k .literals; known = k .known };
         },
       ))
-      (λ b z. omega arith)
+      (λ b. (λ z. omega arith, λ z. omega arith))
   obey-keeps Taken v e c = entered-keeps e (Pos v) (λ y b r q. c y ∙ rw q)
   obey-keeps LeftOut v e c = entered-keeps e (Neg v) (λ y b r q. c y ∙ rw q)
   obey-keeps Closes v e c = (

@@ -92,7 +92,7 @@ encode-injective n m l k e = (word-same _ _ n m _ _ e, items-same l k (ap (drop 
 
 -- the length of a saved strip -----------------------------------------------------------------------------------------
 
-entries-nonzeros : (b : Bool) (t : List ℤ) → endsOpen b t ≡ false → entries (clauses t) ≡ nonzeros t
+pub entries-nonzeros : (b : Bool) (t : List ℤ) → endsOpen b t ≡ false → entries (clauses t) ≡ nonzeros t
 unfolding endsOpen clauses entries nonzeros
 entries-nonzeros b [] h = refl
 entries-nonzeros b (posℤ zero ∷ t) h = omega (arith, entries-nonzeros false t h)

@@ -7,6 +7,7 @@ use lib.ListN.{length}
 use Rattle.theory.specs.Table.{zeros, nonzeros, check, Accepted}
 use Rattle.theory.specs.Encoding.{savedLength}
 use Rattle.theory.proofs.Tables.{accepted-sizes, accepted-closed}
+use Rattle.table.specs.declared.Tally.{Tally}
 use Rattle.table.specs.Tally.{verdict}
 use Rattle.table.proofs.Tallies.{tally-clauses, tally-literals, verdict-check}
 use Rattle.save.proofs.Calling.{call-refused, call-short, has-room, call-saved}
@@ -21,19 +22,23 @@ checked c =
 accepted : (c : tie.After-enum-told) → let a = c .before .before .before .before .before .args in Accepted (a .n) (a .table .now)
 accepted c = checked (c .before .before) ∙ c .enum-told .given .1
 
+-- the tally has the table's groups and entries
+groups : (c : tie.After-tally-of) → c .tally-of .result .clauses ≡ zeros (c .before .before .args .table .now)
+groups c = ap (λ (y : Tally). y .clauses) (c .tally-of .ensures) ∙ tally-clauses _ _
+
+entries : (c : tie.After-tally-of) → c .tally-of .result .literals ≡ nonzeros (c .before .before .args .table .now)
+entries c = ap (λ (y : Tally). y .literals) (c .tally-of .ensures) ∙ tally-literals _ _
+
 saved-length-requires : tie.Need-saved-length-requires
 saved-length-requires c κs =
     let y = c .before .before .before in
     let a = y .before .before .args in
     let w = accepted-sizes (a .n) (a .table .now) (accepted c) in
-    rw (y .tally-of .ensures, tally-clauses (a .n) (a .table .now), tally-literals (a .n) (a .table .now)) (w .clauses, w .literals)
+    (omega (arith, groups y, w .clauses), omega (arith, entries y, w .literals))
 
 bytes : (c : tie.After-saved-length) →
     let t = c .before .before .before .before .before .before .args .table .now in c .saved-length .result ≡ savedLength (zeros t) (nonzeros t)
-bytes c =
-    let y = c .before .before .before .before in
-    let a = y .before .before .args in
-    c .saved-length .ensures ∙ rw (y .tally-of .ensures, tally-clauses (a .n) (a .table .now), tally-literals (a .n) (a .table .now))
+bytes c = let y = c .before .before .before .before in omega (arith, c .saved-length .ensures, groups y, entries y)
 
 returns : tie.Need-returns
 returns c =

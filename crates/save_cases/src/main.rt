@@ -1,0 +1,129 @@
+// Saves tables as strips. Each line is the answer's number and place, and the strip buffer, all 9 before the call; of a table at the limits the first bytes, and
+// whether reading brings the table back.
+use literal::Literal;
+use receipt::Saving;
+use trial::lists::first_bytes;
+use trial::lists::put_entry;
+use trial::lists::same_entries;
+use trial::lists::signed;
+
+// The elements of a group of the table at the limits: four entries and a 0.
+const GROUP: usize = 5;
+
+fn try_one(table: &[i16], n: usize, strip: &mut [u8]) {
+    let answer = save::save(table, n, strip);
+    show::receipt(answer.receipt());
+    show::text(b" |");
+    show::bytes(strip);
+    show::text(b"\n");
+}
+
+fn save_sixteen(table: &[i16], n: usize) {
+    let mut strip = [9u8; 16];
+    try_one(table, n, &mut strip);
+}
+
+fn filings() {
+    let none = [0i16; 0];
+    save_sixteen(&none, 0);
+    save_sixteen(&none, 2);
+    save_sixteen(&[0i16], 1);
+    save_sixteen(&[0i16, 0, 0], 0);
+    save_sixteen(&[1i16, 0], 1);
+    save_sixteen(&[1i16, 1, 0], 1);
+    save_sixteen(&[1i16, -1, 0], 1);
+    save_sixteen(&[1i16, 2, 3, 0], 3);
+    save_sixteen(&[0i16, -2, 0, 1, 0], 2);
+    save_sixteen(&[255i16, -256, 256, 0], 256);
+}
+
+fn refusals() {
+    save_sixteen(&[1i16], 257);
+    save_sixteen(&[1i16, 2], 2);
+    save_sixteen(&[9i16, 9], 1);
+    save_sixteen(&[1i16, -3, 0], 2);
+    save_sixteen(&[-32768i16, 0], 256);
+    save_sixteen(&[1i16, 1, 1, 1, 0], 1);
+    save_sixteen(&[1i16, 1, 1, 1, 2], 1);
+    save_sixteen(&[1i16, 1, 1, 2, 0], 1);
+}
+
+// Room for the strip, a byte less, and a byte more.
+fn rooms() {
+    let none = [0i16; 0];
+    let group = [1i16, -2, 0];
+    try_one(&none, 0, &mut [9u8; 0]);
+    try_one(&none, 0, &mut [9u8; 3]);
+    try_one(&none, 0, &mut [9u8; 4]);
+    try_one(&none, 0, &mut [9u8; 5]);
+    try_one(&group, 2, &mut [9u8; 11]);
+    try_one(&group, 2, &mut [9u8; 12]);
+    try_one(&group, 2, &mut [9u8; 13]);
+}
+
+// An element of the table at the limits, with both signs and every placement.
+fn element(i: usize) -> i16 {
+    if i % GROUP == GROUP - 1 {
+        return 0;
+    }
+    signed(i % Literal::MAX_VARIABLES + 1, i % 2 == 0)
+}
+
+fn fill(table: &mut [i16]) {
+    for i in 0..table.len() {
+        put_entry(table, i, element(i));
+    }
+}
+
+fn read_back(strip: &[u8], table: &[i16; Literal::MAX_TABLE]) {
+    let mut back = [9i16; Literal::MAX_TABLE];
+    let reading = strip::read(strip, &mut back);
+    show::text(b"read back ");
+    show::receipt(reading.receipt());
+    show::text(b":");
+    show::number(reading.variables() as u64);
+    show::number(reading.used() as u64);
+    if same_entries(table, &back) {
+        show::text(b" the same\n");
+    } else {
+        show::text(b" another\n");
+    }
+}
+
+// The answer, and the first bytes of the strip buffer.
+fn shown(answer: Saving, strip: &[u8]) {
+    show::receipt(answer.receipt());
+    show::text(b" |");
+    show::bytes(first_bytes(strip, 18));
+    show::text(b" ..\n");
+}
+
+// 512 groups, 2,048 entries and 256 placements: a byte less than enough room, and just enough.
+fn at_the_limits() {
+    let mut table = [0i16; Literal::MAX_TABLE];
+    fill(&mut table);
+    let mut short = [9u8; 7171];
+    shown(save::save(&table, 256, &mut short), &short);
+    let mut strip = [9u8; save::MAX_SAVED];
+    shown(save::save(&table, 256, &mut strip), &strip);
+    read_back(&strip, &table);
+}
+
+// One group more, and one entry more.
+fn past_the_limits() {
+    let mut strip = [9u8; 16384];
+    let mut table = [0i16; 2561];
+    fill(&mut table);
+    put_entry(&mut table, 2560, 0);
+    shown(save::save(&table, 256, &mut strip), &strip);
+    put_entry(&mut table, 2559, 1);
+    shown(save::save(&table, 256, &mut strip), &strip);
+}
+
+fn main() {
+    filings();
+    refusals();
+    rooms();
+    at_the_limits();
+    past_the_limits();
+}
