@@ -43,6 +43,13 @@ pub fn first_bytes(list: &[u8], count: usize) -> &[u8] {
     list
 }
 
+pub fn bytes_from(list: &[u8], from: usize) -> &[u8] {
+    if from <= list.len() {
+        return &list[from..];
+    }
+    list
+}
+
 pub fn at_most(x: usize, limit: usize) -> usize
     ensures { λ r. ⌜ r ≤ limit ⌝ }
 {
@@ -55,6 +62,18 @@ pub fn same_entries(a: &[i16], b: &[i16]) -> bool {
     }
     for i in 0..a.len() {
         if entry_at(a, i) != entry_at(b, i) {
+            return false;
+        }
+    }
+    true
+}
+
+pub fn same_bytes(a: &[u8], b: &[u8]) -> bool {
+    if a.len() != b.len() {
+        return false;
+    }
+    for i in 0..a.len() {
+        if byte_at(a, i) != byte_at(b, i) {
             return false;
         }
     }

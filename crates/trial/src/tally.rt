@@ -6,7 +6,7 @@ use super::settled::forms_of;
 use std::num::wrapping_add_usize;
 
 // The numbers on the receipt are below this one.
-const NUMBERS: usize = 25;
+const NUMBERS: usize = 26;
 
 // How many answers of each number, how many that were not as expected, what an operation measures (the splits of a search, the bytes of a strip), added up and at
 // most, and what settled lists say.
@@ -102,8 +102,8 @@ impl Tally {
         line(b"most splits", self.most);
     }
 
-    pub fn show_strips(self) {
-        line(b"longest strip read", self.most);
+    pub fn show_strips(self, name: &[u8]) {
+        line(name, self.most);
     }
 
     pub fn show_forms(self) {

@@ -1,4 +1,4 @@
-// Strips made of a filing, with chapters anywhere.
+// Strips made of a filing, with chapters anywhere or with none.
 use super::lists::entry_at;
 use super::lists::put_byte;
 use super::lists::size;
@@ -51,8 +51,8 @@ fn opening(table: &[i16], i: usize, strip: &mut [u8], at: usize, seed: &mut u64)
     at
 }
 
-fn element(table: &[i16], i: usize, strip: &mut [u8], from: usize, seed: &mut u64) -> usize {
-    let at = opening(table, i, strip, from, seed);
+// An entry, or the mark that closes the clause.
+fn entry(table: &[i16], i: usize, strip: &mut [u8], at: usize) -> usize {
     let entry = entry_at(table, i);
     if entry == 0 {
         return put_byte(strip, at, b'E');
@@ -61,6 +61,11 @@ fn element(table: &[i16], i: usize, strip: &mut [u8], from: usize, seed: &mut u6
         return command(strip, at, b'L', size(entry));
     }
     command(strip, at, b'T', size(entry))
+}
+
+fn element(table: &[i16], i: usize, strip: &mut [u8], from: usize, seed: &mut u64) -> usize {
+    let at = opening(table, i, strip, from, seed);
+    entry(table, i, strip, at)
 }
 
 fn elements(table: &[i16], strip: &mut [u8], from: usize, seed: &mut u64) -> usize {
@@ -87,5 +92,22 @@ pub fn write(table: &[i16], n: usize, full: bool, strip: &mut [u8], seed: &mut u
     let end = elements(table, strip, start, seed);
     let count = last_chapters(full, end, seed);
     let at = chapters(strip, end, count, seed);
+    put_byte(strip, at, b'Z')
+}
+
+fn plain_element(table: &[i16], i: usize, strip: &mut [u8], at: usize) -> usize {
+    if opens(table, i) {
+        let next = put_byte(strip, at, b'G');
+        return entry(table, i, strip, next);
+    }
+    entry(table, i, strip, at)
+}
+
+// The same without chapters.
+pub fn write_plain(table: &[i16], n: usize, strip: &mut [u8]) -> usize {
+    let mut at = command(strip, 0, b'P', n);
+    for i in 0..table.len() {
+        at = plain_element(table, i, strip, at);
+    }
     put_byte(strip, at, b'Z')
 }

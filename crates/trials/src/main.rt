@@ -3,6 +3,7 @@
 mod add_trial;
 mod index_trial;
 mod read_trial;
+mod save_trial;
 mod search_trial;
 mod settle_trial;
 
@@ -18,6 +19,7 @@ enum Operation {
     Add,
     Index,
     Read,
+    Save,
 }
 
 fn tried(operation: Operation, number: usize, tally: Tally) -> Tally {
@@ -31,6 +33,7 @@ fn tried(operation: Operation, number: usize, tally: Tally) -> Tally {
         Operation::Add => add_trial::tried(filing, formula, &mut seed, tally),
         Operation::Index => index_trial::tried(filing, formula, &mut seed, tally),
         Operation::Read => read_trial::tried(filing, formula, &mut seed, tally),
+        Operation::Save => save_trial::tried(filing, formula, &mut seed, tally),
     }
 }
 
@@ -90,7 +93,19 @@ fn read_all() -> usize {
     let tally = tally_of(Operation::Read);
     tally.show(b"strips read", 16);
     tally.show_refused(&[24u8, 20, 22, 21, 1, 5, 2, 3, 23]);
-    tally.show_strips();
+    tally.show_strips(b"longest strip read");
+    tally.show_disagreements();
+    tally.disagreements
+}
+
+// Every strip that Save makes is read back.
+fn save_all() -> usize {
+    show::text(b"save\n");
+    let tally = tally_of(Operation::Save);
+    tally.show(b"strips saved", 18);
+    tally.show(b"read back", 16);
+    tally.show_refused(&[1u8, 2, 3, 4, 5, 25]);
+    tally.show_strips(b"longest strip saved");
     tally.show_disagreements();
     tally.disagreements
 }
@@ -104,7 +119,8 @@ fn main() {
     let add = wrapping_add_usize(settle, add_all());
     let index = wrapping_add_usize(add, index_all());
     let read = wrapping_add_usize(index, read_all());
+    let save = wrapping_add_usize(read, save_all());
     show::text(b"all disagreements");
-    show::number(read as u64);
+    show::number(save as u64);
     show::text(b"\n");
 }
