@@ -11,7 +11,8 @@ use Rattle.receipt.specs.declared.Fault.the-variants.{StripTooLong}
 use Rattle.receipt.specs.Receipt.{refusal}
 use Rattle.theory.specs.Calls.{solveCall, solveVariables}
 use Rattle.theory.specs.Strip.{maxStrip, readStrip}
-use Rattle.report.specs.Report.{refusedText, reportOf}
+use Rattle.text.specs.Text.{refusedText}
+use Rattle.report.specs.Report.{reportOf}
 
 too-long : (s : List ℕ) → maxStrip < length s → reportOf s ≡ refusedText (refusal StripTooLong 0)
 unfolding reportOf solveCall solveVariables readStrip

@@ -1,17 +1,12 @@
--- What is printed, made by appending: a line of words, the two lists, and what a search answers.
-use mathlib.Core.Path.{_≡_, ap, sym, _∙_}
-use mathlib.Core.List.{List, [], _∷_, _++_, map, append-assoc}
+-- What is printed, made by appending: an outcome, the two lists, and what a search answers.
+use mathlib.Core.Path.{_≡_}
+use mathlib.Core.List.{List, [], map, append-assoc}
 use Prim.Native.Nat.{ℕ}
 use lib.IntN.{ℤ}
 use Rattle.general.specs.Appending.{Appended, append-both}
 use Rattle.receipt.specs.declared.Outcome.{Outcome}
 use Rattle.text.specs.Text.{codes, decimal, signed, spaced, line}
 use Rattle.report.specs.Report.{outcomeWords, countText, listsText, listsOf, endedText}
-
--- a word, further words after single spaces, then the newline
-pub line-appended : {l₀ l₁ l₂ l₃ : List ℕ} {at p q r : ℕ} (w : List ℕ) (ws : List (List ℕ)) → Appended l₀ at w l₁ p → Appended l₁ p (spaced ws) l₂ q →
-    Appended l₂ q (codes "\n") l₃ r → Appended l₀ at (line w ws) l₃ r
-line-appended w ws a b c = append-both a (append-both b c)
 
 pub outcome-appended : {l l′ : List ℕ} {at r : ℕ} (o v : Outcome) → o ≡ v → Appended l at (line (outcomeWords v) []) l′ r → Appended l at (line (outcomeWords o) []) l′ r
 outcome-appended o v e a = rw e a

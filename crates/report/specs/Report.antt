@@ -6,12 +6,10 @@ use lib.ListN.{replicate, take}
 use Rattle.literal.specs.Literal.{maxVariables}
 use Rattle.receipt.specs.declared.Outcome.{Outcome}
 use Rattle.receipt.specs.declared.Outcome.the-variants.{LaidOut, NoLayout, Stopped}
-use Rattle.receipt.specs.declared.Refusal.{Refusal}
 use Rattle.receipt.specs.declared.Searching.{Searching}
 use Rattle.receipt.specs.declared.Searching.the-variants.{Ended, Refused}
-use Rattle.receipt.specs.Receipt.{numberOf}
 use Rattle.theory.specs.Calls.{solveVariables, solveCall}
-use Rattle.text.specs.Text.{codes, decimal, signed, line}
+use Rattle.text.specs.Text.{codes, decimal, signed, line, refusedText}
 
 -- "allows 1,000,000 splits"
 abbrev pub allowance : ℕ
@@ -37,10 +35,6 @@ listsOf Stopped plan trail = []
 
 unfoldable pub endedText : Outcome → ℕ → List ℕ → List ℤ → List ℕ
 endedText o k plan trail = line (outcomeWords o) [] ++ (countText k ++ listsOf o plan trail)
-
--- "anything else one line, `refused`, number, place, with single spaces"
-abbrev pub refusedText : Refusal → List ℕ
-refusedText f = line (codes "refused") (decimal (numberOf (f .fault)) ∷ decimal (f .place) ∷ [])
 
 abbrev pub searchText : Searching → List ℕ → List ℤ → List ℕ
 searchText (Ended o k) plan trail = endedText o k plan trail

@@ -8,10 +8,9 @@ ghost use Rattle.general.specs.Appending.{Appended};
 ghost use Rattle.io.specs.Counts.{Counts};
 ghost use Rattle.theory.specs.Calls.{over};
 ghost use Rattle.text.specs.Text.{line};
-ghost use Rattle.report.specs.Report.{outcomeWords, refusedText, countText, listsText, endedText, searchText, reportOf};
+ghost use Rattle.report.specs.Report.{outcomeWords, countText, listsText, endedText, searchText, reportOf};
 use literal::Literal;
 use receipt::Outcome;
-use receipt::Refusal;
 use receipt::Searching;
 
 // "allows 1,000,000 splits"
@@ -70,26 +69,13 @@ fn put_ended(out: &mut [u8], outcome: Outcome, count: u32, plan: &[u8], trail: &
     }
 }
 
-fn put_refusal(out: &mut [u8], refusal: Refusal) -> usize
-    requires { ⌜ 50 ≤ length (now out) ⌝ }
-    ensures { λ r. ⌜ Appended (now (out .entry)) 0 (refusedText refusal) (now (out .exit)) r ⌝ }
-{
-    let fault = refusal.fault;
-    let number = fault.number() as u64;
-    let place = refusal.place as u64;
-    let word = text::put_bytes(out, 0, b"refused");
-    let first = text::put_number(out, word, number);
-    let second = text::put_number(out, first, place);
-    text::put_bytes(out, second, b"\n")
-}
-
 fn put_search(out: &mut [u8], found: Searching, plan: &[u8], trail: &[i16]) -> usize
     requires { ⌜ 4 * length (now plan) + 7 * length (now trail) + 100 ≤ length (now out) ⌝ }
     ensures { λ r. ⌜ Appended (now (out .entry)) 0 (searchText found (now (plan .entry)) (now (trail .entry))) (now (out .exit)) r ⌝ }
 {
     match found {
         Searching::Ended { outcome, count } => put_ended(out, outcome, count, plan, trail),
-        Searching::Refused(refusal) => put_refusal(out, refusal),
+        Searching::Refused(refusal) => text::put_refusal(out, refusal),
     }
 }
 

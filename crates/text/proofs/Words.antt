@@ -9,7 +9,7 @@ use lib.ListN.{length, take, getD}
 use lib.Seq.{take-suc, take-all}
 use Rattle.io.specs.Digits.{digits, Fewest}
 use Rattle.general.specs.Appending.{Appended}
-use Rattle.text.specs.Text.{codes, decimal, spaced}
+use Rattle.text.specs.Text.{codes, decimal, spaced, line}
 use Rattle.general.specs.Appending.{append-nothing, append-both}
 use Rattle.text.proofs.Digits.{digits-decimal}
 
@@ -37,6 +37,11 @@ word-appended {w = w} a b = rw (spaced-one w) (append-both a b)
 pub words-appended : {l₀ l₁ l₂ : List ℕ} {at p q : ℕ} (a b : List (List ℕ)) → Appended l₀ at (spaced a) l₁ p → Appended l₁ p (spaced b) l₂ q →
     Appended l₀ at (spaced (a ++ b)) l₂ q
 words-appended a b f s = rw (spaced-append a b) (append-both f s)
+
+-- a line: a word, further words after single spaces, then the newline
+pub line-appended : {l₀ l₁ l₂ l₃ : List ℕ} {at p q r : ℕ} (w : List ℕ) (ws : List (List ℕ)) → Appended l₀ at w l₁ p → Appended l₁ p (spaced ws) l₂ q →
+    Appended l₂ q (codes "\n") l₃ r → Appended l₀ at (line w ws) l₃ r
+line-appended w ws a b c = append-both a (append-both b c)
 
 -- A loop that appends a word for each element of a list ---------------------------------------------------------
 

@@ -1,4 +1,4 @@
--- Text as bytes: words, numbers, and lines of words.
+-- Text as bytes: words, numbers, lines of words, and the line of a refusal.
 use mathlib.Core.Bool.{true, false}
 use mathlib.Core.List.{List, [], _∷_, _++_}
 use Prim.Native.Nat.{ℕ, zero, suc, _+_, _/_, _%_}
@@ -6,6 +6,8 @@ use Prim.Native.Char.{code}
 use Prim.Native.String.{String, [] as empty, _∷_ as character}
 use lib.Dec.{ltb}
 use lib.IntN.{ℤ, pos, negsuc}
+use Rattle.receipt.specs.declared.Refusal.{Refusal}
+use Rattle.receipt.specs.Receipt.{numberOf}
 
 -- the codes of a text's characters
 abbrev pub codes : String → List ℕ
@@ -40,3 +42,7 @@ spaced (w ∷ ws) = codes " " ++ (w ++ spaced ws)
 -- a word, further words, and one newline byte
 abbrev pub line : List ℕ → List (List ℕ) → List ℕ
 line w ws = w ++ (spaced ws ++ codes "\n")
+
+-- a refusal: "one line, `refused`, number, place, with single spaces"
+abbrev pub refusedText : Refusal → List ℕ
+refusedText f = line (codes "refused") (decimal (numberOf (f .fault)) ∷ decimal (f .place) ∷ [])

@@ -1,10 +1,11 @@
-// Numbers and lists of numbers as text, appended to a lent list of bytes.
+// Numbers, lists of numbers and refusals as text, appended to a lent list of bytes.
 // Each function appends to the bytes that stand before `at`, and answers where what it appended ends.
 ghost use mathlib.Core.List.{[], _∷_, map};
 ghost use Prim.Native.Nat.{_+_, _*_, _≤_};
 ghost use lib.ListN.{length};
 ghost use Rattle.general.specs.Appending.{Appended};
-ghost use Rattle.text.specs.Text.{decimal, signed, spaced};
+ghost use Rattle.text.specs.Text.{decimal, signed, spaced, refusedText};
+use receipt::Refusal;
 
 pub fn put_bytes(out: &mut [u8], at: usize, bytes: &[u8]) -> usize
     requires { ⌜ at + length (now bytes) ≤ length (now out) ⌝ }
@@ -81,4 +82,18 @@ pub fn put_entries(out: &mut [u8], at: usize, entries: &[i16]) -> usize
         next = put_entry(out, next, entries[i]);
     }
     next
+}
+
+// The line of a refusal, at the front.
+pub fn put_refusal(out: &mut [u8], refusal: Refusal) -> usize
+    requires { ⌜ 50 ≤ length (now out) ⌝ }
+    ensures { λ r. ⌜ Appended (now (out .entry)) 0 (refusedText refusal) (now (out .exit)) r ⌝ }
+{
+    let fault = refusal.fault;
+    let number = fault.number() as u64;
+    let place = refusal.place as u64;
+    let word = put_bytes(out, 0, b"refused");
+    let first = put_number(out, word, number);
+    let second = put_number(out, first, place);
+    put_bytes(out, second, b"\n")
 }

@@ -1,11 +1,9 @@
 -- `put_refusal` meets its contract.
-use native.Mathlib.Omega.{arith}
 use borrow.Author.Needs.{needs}
 use Rattle.text.specs.Text.{codes}
-use Rattle.text.proofs.Words.{words-appended}
-use Rattle.report.proofs.Lines.{line-appended}
-use Rattle.report.proofs.put_refusal.Statement.{statement}
-use Rattle.report.proofs.put_refusal.Tie as tie
+use Rattle.text.proofs.Words.{words-appended, line-appended}
+use Rattle.text.proofs.put_refusal.Statement.{statement}
+use Rattle.text.proofs.put_refusal.Tie as tie
 
 returns : tie.Need-returns
 returns c =

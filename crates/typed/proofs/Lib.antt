@@ -1,0 +1,4 @@
+pub mod Outputs
+pub mod Messages
+pub mod Promises
+pub mod Examples

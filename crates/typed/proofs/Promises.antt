@@ -1,0 +1,70 @@
+-- What a call of `strip_of` promises: `written r out ≡ outputOf s` is what it ensures of its answer r to the text s, and of the bytes after it.
+use mathlib.Core.Path.{_≡_, refl, ap, sym, _∙_}
+use mathlib.Core.Logic.{_↔_}
+use mathlib.Core.Bool.{Bool, true, false, cond}
+use mathlib.Core.List.{List, [], _∷_}
+use Prim.Native.Nat.{ℕ, suc}
+use native.Mathlib.Decide.{decLe}
+use native.Mathlib.Omega.{arith}
+use borrow.Author.Tests.{ltb-false, le-ltb}
+use lib.Dec.{ltb}
+use lib.IntN.{ℤ}
+use lib.ListN.{length, take, length-take}
+use lib.Seq.{take-all}
+use Rattle.general.specs.Times.{times}
+use Rattle.receipt.specs.declared.Checked.{Checked}
+use Rattle.receipt.specs.declared.Checked.the-variants.{Passed, Refused}
+use Rattle.receipt.specs.Receipt.{numberOf}
+use Rattle.theory.specs.Table.{check}
+use Rattle.theory.specs.Encoding.{savedStrip}
+use Rattle.scan.specs.Scan.{Filing, filing, wrong, filingOf}
+use Rattle.text.specs.Text.{codes, refusedText}
+use Rattle.typed.specs.declared.Typed.{Typed}
+use Rattle.typed.specs.Typed.{maxText, Output, strip, message, tooLongText, wrongText, tableOutput, filingOutput, outputOf, written, Filed, OneLine}
+use Rattle.typed.proofs.Outputs.{too-long}
+use Rattle.typed.proofs.Messages.{one-line}
+
+filed-output : {s : List ℕ} {n : ℕ} {t : List ℤ} → Filed s n t → outputOf s ≡ strip (savedStrip n t)
+unfolding outputOf
+filed-output {s} f = rw (le-ltb maxText (length s) (f .short), f .is, f .accepted)
+
+-- what an output says of its text
+abbrev Says : List ℕ → Output → Type 0
+Says s (strip b) = (n : ℕ) × (t : List ℤ) × Filed s n t × (b ≡ savedStrip n t)
+Says s (message b) = OneLine b × ((n : ℕ) (t : List ℤ) → Filed s n t → ⊥)
+
+says : (s : List ℕ) → Says s (outputOf s)
+unfolding outputOf times
+says s = go (ltb maxText (length s)) refl (filingOf s) refl
+  where
+    no : (b : List ℕ) → message b ≡ outputOf s → (n : ℕ) (t : List ℤ) → Filed s n t → ⊥
+    no b e n t f = let q = e ∙ filed-output f in let z : _≡_ {A = ℕ} 0 1 = cc in omega arith
+
+    table : ltb maxText (length s) ≡ false → (n : ℕ) (t : List ℤ) → filingOf s ≡ filing n t → (c : Checked) → check n t ≡ c → Says s (tableOutput c n t)
+    table h n t q Passed e = (n, t, record { short = ltb-false maxText (length s) h; is = q; accepted = e }, refl)
+    table h n t q (Refused f) e = (one-line (codes "refused") (numberOf (f .fault) ∷ f .place ∷ []) refl, no (refusedText f) (rw (h, q, e)))
+
+    go : (b : Bool) → ltb maxText (length s) ≡ b → (f : Filing) → filingOf s ≡ f → Says s (cond b (message tooLongText) (filingOutput f))
+    go true h f q = (one-line (codes "text too long at byte") (maxText ∷ []) refl, no tooLongText (rw h))
+    go false h (filing n t) q = table h n t q (check n t) refl
+    go false h (wrong at) q = (one-line (codes "not a number at byte") (at ∷ []) refl, no (wrongText at) (rw (h, q)))
+
+module _ (s : List ℕ) (r : Typed) (out : List ℕ) (call : written r out ≡ outputOf s) where
+  -- a strip is written exactly where the text is a filing whose table is accepted, and it is the strip that Save makes of it
+  pub typed-strip : (b : List ℕ) → (written r out ≡ strip b) ↔ ((n : ℕ) × (t : List ℤ) × Filed s n t × (b ≡ savedStrip n t))
+  typed-strip b = (λ e. rw (sym call ∙ e) at (says s), λ w. call ∙ filed-output (w .2) ∙ ap strip (sym (w .3)))
+
+  -- every other text gets a message of one line
+  pub typed-message : ((n : ℕ) (t : List ℤ) → Filed s n t → ⊥) ↔ ((b : List ℕ) × (written r out ≡ message b) × OneLine b)
+  typed-message = (λ h. go h (written r out) refl, λ w n t f. (rw (sym call ∙ w .1) at (says s)) .1 n t f)
+    where
+      go : ((n : ℕ) (t : List ℤ) → Filed s n t → ⊥) → (o : Output) → written r out ≡ o → (b : List ℕ) × (o ≡ message b) × OneLine b
+      go h (strip b) e = let w = typed-strip b .0 e in absurd (h (w .0) (w .1) (w .2))
+      go h (message b) e = (b, refl, (rw (sym call ∙ e) at (says s)) .0)
+
+-- the program reads one byte past the longest text: that gets what the whole input would
+pub one-past : (s : List ℕ) → outputOf (take (suc maxText) s) ≡ outputOf s
+one-past s = elim (decLe (length s) (suc maxText)) [
+  | yes h ↦ ap outputOf (take-all (suc maxText) s h)
+  | no h ↦ sym (too-long (take (suc maxText) s) (omega (arith, length-take (suc maxText) s))) ∙ too-long s (omega arith)
+]
