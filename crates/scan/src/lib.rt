@@ -6,6 +6,11 @@ ghost use lib.ListN.{length, drop};
 ghost use Rattle.scan.specs.Scan.{blank, isDigit, natural, numberOf, leading, wordOf, wordAt, tableAt, filingOf};
 ghost use Rattle.scan.specs.Answers.{naturalOf, blankIs, usedOf, scannedOf};
 
+// The sizes of the largest and of the smallest number of 16 bits.
+const MOST: u32 = 32767;
+
+const MOST_NEGATIVE: u32 = 32768;
+
 // Words ---------------------------------------------------------------------------------------------------------------
 
 // A word: its number and the index after it, or its place where it is no number, or that no word is left.
@@ -25,13 +30,13 @@ enum Natural {
 fn is_blank(byte: u8) -> bool
     ensures { λ r. ⌜ r ≡ blank byte ⌝ }
 {
-    byte == 32 || (9 <= byte && byte <= 13)
+    byte == b' ' || (b'\t' <= byte && byte <= b'\r')
 }
 
 fn is_digit(byte: u8) -> bool
     ensures { λ r. ⌜ r ≡ isDigit byte ⌝ }
 {
-    48 <= byte && byte <= 57
+    b'0' <= byte && byte <= b'9'
 }
 
 // The value of one or more digits, if it is within the limit.
@@ -48,7 +53,7 @@ fn value_of(word: &[u8], limit: u32) -> Natural
         if !is_digit(byte) {
             return Natural::Nothing;
         }
-        value = value * 10 + (byte - 48) as u32;
+        value = value * 10 + (byte - b'0') as u32;
         if limit < value {
             return Natural::Nothing;
         }
@@ -69,13 +74,13 @@ fn word_of(word: &[u8], start: usize, end: usize) -> Word
     requires { ⌜ 0 < length (now word) ⌝ }
     ensures { λ r. ⌜ r ≡ wordOf start end (numberOf (now (word .entry))) ⌝ }
 {
-    if word[0] == 45 {
-        match value_of(&word[1..], 32768) {
+    if word[0] == b'-' {
+        match value_of(&word[1..], MOST_NEGATIVE) {
             Natural::Value(value) => Word::Number(negated(value), end),
             Natural::Nothing => Word::Wrong(start),
         }
     } else {
-        match value_of(word, 32767) {
+        match value_of(word, MOST) {
             Natural::Value(value) => Word::Number(value as i16, end),
             Natural::Nothing => Word::Wrong(start),
         }

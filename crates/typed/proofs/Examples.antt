@@ -22,9 +22,9 @@ rows =
     row "3 1 2 3 0\n" (strip (0x50 ∷ 0x00 ∷ 0x03 ∷ 0x47 ∷ 0x54 ∷ 0x00 ∷ 0x01 ∷ 0x54 ∷ 0x00 ∷ 0x02 ∷ 0x54 ∷ 0x00 ∷ 0x03 ∷ 0x45 ∷ 0x5A ∷ []))
     ∷ row " 1\n-1 0" (strip (0x50 ∷ 0x00 ∷ 0x01 ∷ 0x47 ∷ 0x4C ∷ 0x00 ∷ 0x01 ∷ 0x45 ∷ 0x5A ∷ []))
     ∷ row "1 -32768 0" (message (codes "refused 5 0\n"))
-    ∷ row "1 32768 0" (message (codes "not a number at byte 2\n"))
-    ∷ row " -1" (message (codes "not a number at byte 1\n"))
-    ∷ row "" (message (codes "not a number at byte 0\n"))
+    ∷ row "1 32768 0" (message (codes "no valid number at byte 2\n"))
+    ∷ row " -1" (message (codes "no valid number at byte 1\n"))
+    ∷ row "" (message (codes "no valid number at byte 0\n"))
     ∷ []
 
 pub examples-hold : map (λ (r : Row). outputOf (r .text)) rows ≡ map (λ (r : Row). r .output) rows

@@ -3,7 +3,7 @@ use mathlib.Core.Path.{_≡_, refl, ap, sym, _∙_}
 use mathlib.Core.Logic.{_↔_}
 use mathlib.Core.Bool.{Bool, true, false, cond}
 use mathlib.Core.List.{List, [], _∷_}
-use Prim.Native.Nat.{ℕ, suc}
+use Prim.Native.Nat.{ℕ, suc, _≤_}
 use native.Mathlib.Decide.{decLe}
 use native.Mathlib.Omega.{arith}
 use borrow.Author.Tests.{ltb-false, le-ltb}
@@ -14,9 +14,12 @@ use lib.Seq.{take-all}
 use Rattle.general.specs.Times.{times}
 use Rattle.receipt.specs.declared.Checked.{Checked}
 use Rattle.receipt.specs.declared.Checked.the-variants.{Passed, Refused}
+use Rattle.receipt.specs.declared.Reading.the-variants.{Read}
 use Rattle.receipt.specs.Receipt.{numberOf}
 use Rattle.theory.specs.Table.{check}
+use Rattle.theory.specs.Strip.{readStrip}
 use Rattle.theory.specs.Encoding.{savedStrip}
+use Rattle.save.proofs.RoundTrip.{saved-reads}
 use Rattle.scan.specs.Scan.{Filing, filing, wrong, filingOf}
 use Rattle.text.specs.Text.{codes, refusedText}
 use Rattle.typed.specs.declared.Typed.{Typed}
@@ -47,12 +50,19 @@ says s = go (ltb maxText (length s)) refl (filingOf s) refl
     go : (b : Bool) → ltb maxText (length s) ≡ b → (f : Filing) → filingOf s ≡ f → Says s (cond b (message tooLongText) (filingOutput f))
     go true h f q = (one-line (codes "text too long at byte") (maxText ∷ []) refl, no tooLongText (rw h))
     go false h (filing n t) q = table h n t q (check n t) refl
-    go false h (wrong at) q = (one-line (codes "not a number at byte") (at ∷ []) refl, no (wrongText at) (rw (h, q)))
+    go false h (wrong at) q = (one-line (codes "no valid number at byte") (at ∷ []) refl, no (wrongText at) (rw (h, q)))
 
 module _ (s : List ℕ) (r : Typed) (out : List ℕ) (call : written r out ≡ outputOf s) where
   -- a strip is written exactly where the text is a filing whose table is accepted, and it is the strip that Save makes of it
   pub typed-strip : (b : List ℕ) → (written r out ≡ strip b) ↔ ((n : ℕ) × (t : List ℤ) × Filed s n t × (b ≡ savedStrip n t))
   typed-strip b = (λ e. rw (sym call ∙ e) at (says s), λ w. call ∙ filed-output (w .2) ∙ ap strip (sym (w .3)))
+
+  -- reading it brings back what was typed
+  pub typed-reads : (b : List ℕ) → written r out ≡ strip b →
+      (n : ℕ) × (t : List ℤ) × (filingOf s ≡ filing n t) × ((room : ℕ) → length t ≤ room → readStrip b room ≡ record { reading = Read n (length t); table = t })
+  typed-reads b e =
+      let w = typed-strip b .0 e in
+      (w .0, w .1, w .2 .is, λ room h. ap (λ (x : List ℕ). readStrip x room) (w .3) ∙ saved-reads (w .0) (w .1) (w .2 .accepted) room h)
 
   -- every other text gets a message of one line
   pub typed-message : ((n : ℕ) (t : List ℤ) → Filed s n t → ⊥) ↔ ((b : List ℕ) × (written r out ≡ message b) × OneLine b)

@@ -33,7 +33,7 @@ abbrev pub tooLongText : List ℕ
 tooLongText = placeText (codes "text too long at byte") maxText
 
 abbrev pub wrongText : ℕ → List ℕ
-wrongText at = placeText (codes "not a number at byte") at
+wrongText at = placeText (codes "no valid number at byte") at
 
 -- a table that is refused gets the layout program's line
 abbrev pub tableOutput : Checked → ℕ → List ℤ → Output

@@ -62,7 +62,7 @@ pub fn strip_of(text: &[u8], out: &mut [u8; OUTPUT]) -> Typed
     }
     let mut cells = [0i16; MAX_TEXT];
     match scan::filing(text, &mut cells) {
-        Scanned::Wrong(place) => Typed::Message(put_place(out, b"not a number at byte", place)),
+        Scanned::Wrong(place) => Typed::Message(put_place(out, b"no valid number at byte", place)),
         Scanned::Filing { variables, used } => match save::save(&cells[..used], variables, out) {
             Saving::Saved(length) => Typed::Strip(length),
             Saving::Refused(refusal) => Typed::Message(text::put_refusal(out, refusal)),
