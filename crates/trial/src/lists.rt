@@ -68,18 +68,6 @@ pub fn same_entries(a: &[i16], b: &[i16]) -> bool {
     true
 }
 
-pub fn same_bytes(a: &[u8], b: &[u8]) -> bool {
-    if a.len() != b.len() {
-        return false;
-    }
-    for i in 0..a.len() {
-        if byte_at(a, i) != byte_at(b, i) {
-            return false;
-        }
-    }
-    true
-}
-
 pub fn clear_bytes(list: &mut [u8], n: usize) {
     for i in 0..n {
         put_byte(list, i, 0);

@@ -8,7 +8,6 @@ use trial::lists::at_most;
 use trial::lists::bytes_from;
 use trial::lists::first_bytes;
 use trial::lists::part;
-use trial::lists::same_bytes;
 use trial::lists::same_entries;
 use trial::random::room_of;
 use trial::readings::expected;
@@ -39,10 +38,10 @@ fn run_of(table: &[i16], n: usize, room: usize) -> Run {
 fn holds(strip: [u8; STRIP], wanted: &[u8]) -> bool {
     let untouched = [UNTOUCHED; STRIP];
     let length = wanted.len();
-    if !same_bytes(first_bytes(&strip, length), wanted) {
+    if !check::same(first_bytes(&strip, length), wanted) {
         return false;
     }
-    same_bytes(bytes_from(&strip, length), bytes_from(&untouched, length))
+    check::same(bytes_from(&strip, length), bytes_from(&untouched, length))
 }
 
 fn is_right(run: Run, verdict: Verdict, wanted: &[u8]) -> bool {
