@@ -1,6 +1,6 @@
 #!/usr/bin/env bash
-# Installs the archive, the header and the layout program into a folder of its own, links the archive into C and into C++ with warnings as errors and the address and
-# undefined-behaviour sanitizers, and runs the host, its tests and the program.
+# Installs the archive, the header and the programs into a folder of its own, links the archive into C and into C++ with warnings as errors and the address and
+# undefined-behaviour sanitizers, and runs the host, its tests and the programs.
 set -eu
 cd "$(dirname "$0")/.."
 { command -v gcc && command -v g++; } >/dev/null || { apt-get update -qq && apt-get install -y -qq gcc g++ libc6-dev; }
@@ -30,3 +30,22 @@ same "the strips' sizes" "$(longest | wc -c) $(longer | wc -c)" "16384 16385"
 same "layout" "$("$prefix/bin/layout" <crates/layout/stdin)" "$(cat crates/layout/stdout)"
 same "layout, 16,384 bytes" "$(longest | "$prefix/bin/layout")" $'laid out\ncount 0\nplan\ntrail'
 same "layout, 16,385 bytes" "$(longer | "$prefix/bin/layout")" "refused 24 0"
+
+# strip_of: README's first example, the longest table, and a text of each kind that gets a line on standard error and nothing on standard output
+strip_of() { timeout 60 "$prefix/bin/strip_of"; }
+longest_table() { echo 256; for i in $(seq 512); do echo "$((i % 256 + 1)) -$((i % 7 + 250)) 3 -4 0"; done; }
+told() { # what is tried, the line it must write; the text from standard input
+    strip_of >"$prefix/out" 2>"$prefix/err"
+    same "strip_of, $1" "$(cat "$prefix/err")" "$2"
+    same "strip_of, $1, its lines and bytes" "$(wc -l <"$prefix/err") $(wc -c <"$prefix/out")" "1 0"
+}
+same "strip_of" "$(echo 3 1 2 3 0 | strip_of | od -An -tx1 | tr -d ' \n')" "50000347540001540002540003455a"
+same "strip_of and layout" "$(echo 3 1 2 3 0 | strip_of | "$prefix/bin/layout")" "$(cat crates/layout/stdout)"
+same "strip_of, longest table" "$(longest_table | strip_of | wc -c)" 7172
+same "strip_of, longest table, and layout" "$(longest_table | strip_of | "$prefix/bin/layout" | head -n 1)" "no layout"
+echo 3 1 2 x 0 | told "a word that is no number" "no valid number at byte 6"
+echo 3 1 70000 0 | told "a number of more than 16 bits" "no valid number at byte 4"
+printf '' | told "an empty text" "no valid number at byte 0"
+echo 2 1 -3 0 | told "an unknown placement" "refused 5 1"
+echo 257 | told "too many placements" "refused 1 0"
+yes 1 | told "a text without end" "text too long at byte 32768"
