@@ -1,4 +1,4 @@
--- What a call of `strip_of` promises: `written r out ≡ outputOf s` is what it ensures of its answer r to the text s, and of the bytes after it.
+-- What a call of `strip_of` promises: `called r out ≡ outputCall (outputOf s) old` is what it ensures of its answer r to the text s, and of the bytes before and after it.
 use mathlib.Core.Path.{_≡_, refl, ap, sym, _∙_}
 use mathlib.Core.Logic.{_↔_}
 use mathlib.Core.Bool.{Bool, true, false, cond}
@@ -9,8 +9,8 @@ use native.Mathlib.Omega.{arith}
 use borrow.Author.Tests.{ltb-false, le-ltb}
 use lib.Dec.{ltb}
 use lib.IntN.{ℤ}
-use lib.ListN.{length, take, length-take}
-use lib.Seq.{take-all}
+use lib.ListN.{length, take, drop, length-take}
+use lib.Seq.{take-all, take-append-seam, drop-append-seam}
 use Rattle.general.specs.Times.{times}
 use Rattle.receipt.specs.declared.Checked.{Checked}
 use Rattle.receipt.specs.declared.Checked.the-variants.{Passed, Refused}
@@ -23,7 +23,7 @@ use Rattle.save.proofs.RoundTrip.{saved-reads}
 use Rattle.scan.specs.Scan.{Filing, filing, wrong, filingOf}
 use Rattle.text.specs.Text.{codes, refusedText}
 use Rattle.typed.specs.declared.Typed.{Typed}
-use Rattle.typed.specs.Typed.{maxText, Output, strip, message, tooLongText, wrongText, tableOutput, filingOutput, outputOf, written, Filed, OneLine}
+use Rattle.typed.specs.Typed.{maxText, Output, strip, message, tooLongText, wrongText, tableOutput, filingOutput, outputOf, TypedCall, called, outputCall, lengthOf, written, Filed, OneLine}
 use Rattle.typed.proofs.Outputs.{too-long}
 use Rattle.typed.proofs.Messages.{one-line}
 
@@ -52,10 +52,25 @@ says s = go (ltb maxText (length s)) refl (filingOf s) refl
     go false h (filing n t) q = table h n t q (check n t) refl
     go false h (wrong at) q = (one-line (codes "no valid number at byte") (at ∷ []) refl, no (wrongText at) (rw (h, q)))
 
-module _ (s : List ℕ) (r : Typed) (out : List ℕ) (call : written r out ≡ outputOf s) where
+module _ (s : List ℕ) (r : Typed) (old out : List ℕ) (call : called r out ≡ outputCall (outputOf s) old) where
+  writes : written r out ≡ outputOf s
+  writes = ap (λ (c : TypedCall). written (c .answer) (c .out)) call ∙ go (outputOf s)
+    where
+      go : (o : Output) → written (outputCall o old .answer) (outputCall o old .out) ≡ o
+      go (strip b) = ap strip (take-append-seam b (drop (length b) old))
+      go (message b) = ap message (take-append-seam b (drop (length b) old))
+
+  -- bytes past the output are never changed
+  pub typed-rest-kept : drop (lengthOf r) out ≡ drop (lengthOf r) old
+  typed-rest-kept = rw (ap (λ (c : TypedCall). c .answer) call, ap (λ (c : TypedCall). c .out) call) (go (outputOf s))
+    where
+      go : (o : Output) → drop (lengthOf (outputCall o old .answer)) (outputCall o old .out) ≡ drop (lengthOf (outputCall o old .answer)) old
+      go (strip b) = drop-append-seam b (drop (length b) old)
+      go (message b) = drop-append-seam b (drop (length b) old)
+
   -- a strip is written exactly where the text is a filing whose table is accepted, and it is the strip that Save makes of it
   pub typed-strip : (b : List ℕ) → (written r out ≡ strip b) ↔ ((n : ℕ) × (t : List ℤ) × Filed s n t × (b ≡ savedStrip n t))
-  typed-strip b = (λ e. rw (sym call ∙ e) at (says s), λ w. call ∙ filed-output (w .2) ∙ ap strip (sym (w .3)))
+  typed-strip b = (λ e. rw (sym writes ∙ e) at (says s), λ w. writes ∙ filed-output (w .2) ∙ ap strip (sym (w .3)))
 
   -- reading it brings back what was typed
   pub typed-reads : (b : List ℕ) → written r out ≡ strip b →
@@ -66,11 +81,11 @@ module _ (s : List ℕ) (r : Typed) (out : List ℕ) (call : written r out ≡ o
 
   -- every other text gets a message of one line
   pub typed-message : ((n : ℕ) (t : List ℤ) → Filed s n t → ⊥) ↔ ((b : List ℕ) × (written r out ≡ message b) × OneLine b)
-  typed-message = (λ h. go h (written r out) refl, λ w n t f. (rw (sym call ∙ w .1) at (says s)) .1 n t f)
+  typed-message = (λ h. go h (written r out) refl, λ w n t f. (rw (sym writes ∙ w .1) at (says s)) .1 n t f)
     where
       go : ((n : ℕ) (t : List ℤ) → Filed s n t → ⊥) → (o : Output) → written r out ≡ o → (b : List ℕ) × (o ≡ message b) × OneLine b
       go h (strip b) e = let w = typed-strip b .0 e in absurd (h (w .0) (w .1) (w .2))
-      go h (message b) e = (b, refl, (rw (sym call ∙ e) at (says s)) .0)
+      go h (message b) e = (b, refl, (rw (sym writes ∙ e) at (says s)) .0)
 
 -- the program reads one byte past the longest text: that gets what the whole input would
 pub one-past : (s : List ℕ) → outputOf (take (suc maxText) s) ≡ outputOf s

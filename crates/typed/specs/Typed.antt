@@ -11,6 +11,7 @@ use Rattle.receipt.specs.declared.Checked.{Checked}
 use Rattle.receipt.specs.declared.Checked.the-variants.{Passed, Refused}
 use Rattle.theory.specs.Table.{check, Accepted}
 use Rattle.theory.specs.Encoding.{savedStrip}
+use Rattle.theory.specs.Calls.{over}
 use Rattle.scan.specs.Scan.{Filing, filing, wrong, filingOf}
 use Rattle.text.specs.Text.{codes, decimal, line, refusedText}
 use Rattle.typed.specs.declared.Typed.{Typed}
@@ -47,18 +48,31 @@ filingOutput (wrong at) = message (wrongText at)
 unfoldable pub outputOf : List ℕ → Output
 outputOf s = cond (ltb maxText (length s)) (message tooLongText) (filingOutput (filingOf s))
 
--- A call's answer, with the bytes lent to it ------------------------------------------------------------------------
+-- A call ----------------------------------------------------------------------------------------------------------
+
+-- its answer, and the bytes lent to it
+pub record TypedCall : Type 0 where
+  pub answer : Typed
+  pub out : List ℕ
+
+abbrev pub called : Typed → List ℕ → TypedCall
+called r l = record { answer = r; out = l }
+
+-- the output stands at the front of the bytes lent, and those past it are never changed
+abbrev pub outputCall : Output → List ℕ → TypedCall
+outputCall (strip b) l = called (Strip (length b)) (over (length b) b l)
+outputCall (message b) l = called (Message (length b)) (over (length b) b l)
 
 abbrev pub lengthOf : Typed → ℕ
 lengthOf (Strip k) = k
 lengthOf (Message k) = k
 
--- the first so many bytes; those past them are free
+-- What the promises speak of ----------------------------------------------------------------------------------------
+
+-- what an answer says of the bytes after the call
 abbrev pub written : Typed → List ℕ → Output
 written (Strip k) out = strip (take k out)
 written (Message k) out = message (take k out)
-
--- What the promises speak of ----------------------------------------------------------------------------------------
 
 -- a text within the limit that is a filing whose table is accepted
 pub record Filed (s : List ℕ) (n : ℕ) (t : List ℤ) : Type 0 where

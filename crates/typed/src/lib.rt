@@ -3,7 +3,7 @@ ghost use mathlib.Core.Path.{_≡_};
 ghost use Prim.Native.Nat.{_+_, _≤_};
 ghost use lib.ListN.{length, take};
 ghost use Rattle.general.specs.Appending.{Appended};
-ghost use Rattle.typed.specs.Typed.{placeText, outputOf, lengthOf, written};
+ghost use Rattle.typed.specs.Typed.{placeText, outputOf, called, outputCall, lengthOf};
 use receipt::Saving;
 use scan::Scanned;
 
@@ -54,7 +54,7 @@ fn put_place(out: &mut [u8], what: &[u8], place: usize) -> usize
 }
 
 pub fn strip_of(text: &[u8], out: &mut [u8; OUTPUT]) -> Typed
-    ensures output { λ r. ⌜ written r (now (out .exit)) ≡ outputOf (now (text .entry)) ⌝ }
+    ensures output { λ r. ⌜ called r (now (out .exit)) ≡ outputCall (outputOf (now (text .entry))) (now (out .entry)) ⌝ }
     ensures length { λ r. ⌜ lengthOf r ≤ length (now (out .exit)) ⌝ }
 {
     if MAX_TEXT < text.len() {

@@ -35,7 +35,8 @@ returns-2 c =
 -- and the answer of Save
 saving : (c : tie.After-save) →
     let v = c .before .before .before .before in
-    Writes (outputOf (v .before .before .before .before .before .before .before .args .text .now)) (c .save .result) (c .save .last .1 .1 .0)
+    let a = v .before .before .before .before .before .before .before .args in
+    Writes (a .out .now) (outputOf (a .text .now)) (c .save .result) (c .save .last .1 .1 .0)
 saving c = writes _ _ _ (omega arith) (c .save .ensures) (table-output (c .before .before .before .before))
 
 returns-3 : tie.Need-returns-3
@@ -44,7 +45,8 @@ returns-3 c = rw (c .before .length .given .1) at (saving (c .before .before .be
 returns-4 : tie.Need-returns-4
 returns-4 c =
     let r = c .before .before .before in
-    message-written (c .put-refusal .ensures) (rw (r .refusal .given .1) at (saving (r .before .before)))
+    let w = rw (r .refusal .given .1) at (saving (r .before .before)) in
+    rw (w .1) at (message-written (c .put-refusal .ensures) (w .0))
 
 pub strip-of-spec : {M : Type 1} → statement M
 strip-of-spec =
