@@ -1,5 +1,5 @@
 -- The ways in which a call of Save ends, as `saveCall` has them.
-use mathlib.Core.Path.{_≡_, ap, sym, _∙_}
+use mathlib.Core.Path.{_≡_}
 use mathlib.Core.List.{List}
 use Prim.Native.Nat.{ℕ, _≤_, _<_}
 use native.Mathlib.Omega.{arith}
@@ -14,8 +14,7 @@ use Rattle.receipt.specs.declared.Saving.the-variants.{Saved, Refused}
 use Rattle.receipt.specs.Receipt.{refusal}
 use Rattle.theory.specs.Table.{zeros, nonzeros, check, Accepted}
 use Rattle.theory.specs.Encoding.{savedStrip, savedLength}
-use Rattle.theory.specs.Calls.{over, saveCall}
-use Rattle.theory.proofs.Tables.{accepted-closed}
+use Rattle.theory.specs.Calls.{saveCall}
 use Rattle.theory.proofs.Encodings.{saved-length}
 use Rattle.save.specs.Save.{called}
 
@@ -25,15 +24,12 @@ module _ (n : ℕ) (t : List ℤ) (s : List ℕ) where
   call-refused r e = rw e
 
   module _ (a : Accepted n t) where
-    bytes : length (savedStrip n t) ≡ savedLength (zeros t) (nonzeros t)
-    bytes = saved-length n t (accepted-closed n t a)
-
     pub call-short : length s < savedLength (zeros t) (nonzeros t) → called (Refused (refusal StripShort 0)) s ≡ saveCall n t s
     unfolding saveCall
-    call-short h = rw (a, lt-ltb (length s) (length (savedStrip n t)) (omega (arith, bytes)))
+    call-short h = rw (a, lt-ltb (length s) (length (savedStrip n t)) (omega (arith, saved-length n t a)))
 
     pub has-room : savedLength (zeros t) (nonzeros t) ≤ length s → length (savedStrip n t) ≤ length s
-    has-room h = omega (arith, bytes)
+    has-room h = omega (arith, saved-length n t a)
 
     pub call-saved : savedLength (zeros t) (nonzeros t) ≤ length s → (s′ : List ℕ) (k : ℕ) → Appended s 0 (savedStrip n t) s′ k → called (Saved k) s′ ≡ saveCall n t s
     unfolding saveCall

@@ -24,10 +24,10 @@ use Rattle.receipt.specs.declared.Saving.the-variants.{Saved, Refused}
 use Rattle.receipt.proofs.Numbers.{not-refused}
 use Rattle.theory.specs.Calls.{over, SaveCall, saveChecked, saveCall, readCall}
 use Rattle.theory.specs.Encoding.{savedStrip, savedLength, Unchaptered, Bytes}
-use Rattle.theory.specs.Strip.{Decoding, maxStrip, readStrip}
+use Rattle.theory.specs.Strip.{Decoding, readStrip}
 use Rattle.theory.specs.Table.{zeros, nonzeros, check, Accepted, WithinLimits}
 use Rattle.theory.proofs.Encodings.{saved-length, saved-short}
-use Rattle.theory.proofs.Tables.{accepted-sizes, accepted-exactly, accepted-closed}
+use Rattle.theory.proofs.Tables.{accepted-sizes, accepted-exactly}
 use Rattle.strip.specs.Decoding.{called as readCalled}
 use Rattle.strip.proofs.Accepted.{read-accepted}
 use Rattle.strip.proofs.Ends.{sized}
@@ -54,9 +54,6 @@ data Way (n : ℕ) (t : List ℤ) (s : List ℕ) : Saving → List ℕ → Type 
 abbrev By : ℕ → List ℤ → List ℕ → SaveCall → Type 0
 By n t s k = Way n t s (k .answer) (k .strip)
 
-bytes : (n : ℕ) (t : List ℤ) → Accepted n t → length (savedStrip n t) ≡ savedLength (zeros t) (nonzeros t)
-bytes n t a = saved-length n t (accepted-closed n t a)
-
 way : {n : ℕ} {t : List ℤ} {s : List ℕ} {r : Saving} {s′ : List ℕ} → Call n t s r s′ → Way n t s r s′
 unfolding saveCall
 way {n} {t} {s} c = subst (By n t s) (sym (c .is)) (go (check n t) refl)
@@ -64,7 +61,7 @@ way {n} {t} {s} c = subst (By n t s) (sym (c .is)) (go (check n t) refl)
     go : (k : Checked) → check n t ≡ k → By n t s (saveChecked k n t s)
     go (checked.Refused w) e = refused w (λ h. let z : _≡_ {A = ℕ} 0 1 = cc (accepted-exactly n t .1 (h .0)) in omega arith)
     go checked.Passed e = cond-ind (By n t s) _ _ (ltb (length s) (length (savedStrip n t)))
-        (λ b. refused _ (λ h. omega (arith, h .1, bytes n t e, ltb-true (length s) (length (savedStrip n t)) b)))
+        (λ b. refused _ (λ h. omega (arith, h .1, saved-length n t e, ltb-true (length s) (length (savedStrip n t)) b)))
         (λ b. saved e (ltb-false (length s) (length (savedStrip n t)) b))
 
 module _ {n : ℕ} {t : List ℤ} {s : List ℕ} {r : Saving} {s′ : List ℕ} (c : Call n t s r s′) where
@@ -74,7 +71,7 @@ module _ {n : ℕ} {t : List ℤ} {s : List ℕ} {r : Saving} {s′ : List ℕ} 
     where
       go : {r : Saving} {s′ : List ℕ} → Way n t s r s′ → NotRefused r ↔ Savable n t s
       go (refused w h) = (λ k. absurd (k w refl), λ k. absurd (h k))
-      go (saved a h) = (λ _. (accepted-sizes n t a, omega (arith, bytes n t a)), λ _ w q. let z : _≡_ {A = ℕ} 0 1 = cc in omega arith)
+      go (saved a h) = (λ _. (accepted-sizes n t a, omega (arith, saved-length n t a)), λ _ w q. let z : _≡_ {A = ℕ} 0 1 = cc in omega arith)
 
   -- "Success is 18, done"; "place is its length"
   pub save-answers : NotRefused r → savingReceipt r ≡ receipt done (savedLength (zeros t) (nonzeros t)) 0
@@ -82,7 +79,7 @@ module _ {n : ℕ} {t : List ℤ} {s : List ℕ} {r : Saving} {s′ : List ℕ} 
     where
       go : {r : Saving} {s′ : List ℕ} → Way n t s r s′ → NotRefused r → savingReceipt r ≡ receipt done (savedLength (zeros t) (nonzeros t)) 0
       go (refused w h) k = absurd (k w refl)
-      go (saved a h) k = ap (λ (m : ℕ). receipt done m 0) (bytes n t a)
+      go (saved a h) k = ap (λ (m : ℕ). receipt done m 0) (saved-length n t a)
 
   -- "Turned away: 1 to 5 as for any table"
   pub save-table-refused : (w : Refusal) → check n t ≡ checked.Refused w → r ≡ Refused w
@@ -94,7 +91,7 @@ module _ {n : ℕ} {t : List ℤ} {s : List ℕ} {r : Saving} {s′ : List ℕ} 
   unfolding saveCall
   save-strip-short w h =
       let a : Accepted n t = accepted-exactly n t .1 w in
-      ap (λ (k : SaveCall). k .answer) (c .is) ∙ rw (a, lt-ltb (length s) (length (savedStrip n t)) (omega (arith, bytes n t a)))
+      ap (λ (k : SaveCall). k .answer) (c .is) ∙ rw (a, lt-ltb (length s) (length (savedStrip n t)) (omega (arith, saved-length n t a)))
 
   -- "On refusal the strip buffer is untouched"
   pub save-refused-unchanged : (w : Refusal) → r ≡ Refused w → s′ ≡ s

@@ -13,7 +13,7 @@ use Rattle.theory.specs.declared.Mark.the-variants.{Placements, Opens, Taken, L
 use Rattle.theory.specs.Formula.{Clause, Formula, clauses}
 use Rattle.theory.specs.Table.{Accepted}
 use Rattle.theory.specs.Strip.{byteOf, nothingRead, readStrip}
-use Rattle.theory.specs.Encoding.{Item, group, entryBytes, itemBytes, encode, groups, tableOf, entries, savedStrip, Unchaptered, StripWithin, Bytes}
+use Rattle.theory.specs.Encoding.{group, entryBytes, itemBytes, encode, groups, tableOf, savedStrip, Unchaptered, StripWithin, Bytes}
 use Rattle.theory.proofs.Tables.{accepted-sizes, accepted-closed, accepted-within}
 use Rattle.theory.proofs.Heads.{clauses-zeros}
 use Rattle.theory.proofs.Encodings.{table-clauses, clauses-table, groups-only, encode-injective, entries-nonzeros, saved-short}

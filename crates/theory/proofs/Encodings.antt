@@ -116,13 +116,13 @@ unfolding itemBytes entries
 item-length [] = refl
 item-length (c ∷ f) = omega (arith, length-append (entryBytes c) (byteOf Closes ∷ itemBytes (map group f)), entry-length c, item-length f)
 
-pub saved-length : (n : ℕ) (t : List ℤ) → endsOpen false t ≡ false → length (savedStrip n t) ≡ savedLength (zeros t) (nonzeros t)
+pub saved-length : (n : ℕ) (t : List ℤ) → Accepted n t → length (savedStrip n t) ≡ savedLength (zeros t) (nonzeros t)
 unfolding savedStrip
-saved-length n t h = omega (arith, item-length (clauses t), clauses-zeros t, entries-nonzeros false t h)
+saved-length n t a = omega (arith, item-length (clauses t), clauses-zeros t, entries-nonzeros false t (accepted-closed n t a))
 
 -- the longest is of a table at the limits
 pub saved-most : (n : ℕ) (t : List ℤ) → Accepted n t → length (savedStrip n t) ≤ maxSaved
-saved-most n t a = let w = accepted-sizes n t a in omega (arith, saved-length n t (accepted-closed n t a), w .clauses, w .literals)
+saved-most n t a = let w = accepted-sizes n t a in omega (arith, saved-length n t a, w .clauses, w .literals)
 
 -- none is "over 16,384 bytes"
 pub saved-short : (n : ℕ) (t : List ℤ) → Accepted n t → length (savedStrip n t) ≤ maxStrip

@@ -1,5 +1,5 @@
 -- What the operations answer, and what they leave in the lists lent to them.
-use mathlib.Core.Bool.{Bool, true, false, _||_, cond}
+use mathlib.Core.Bool.{_||_, cond}
 use mathlib.Core.List.{List, [], _∷_, _++_}
 use Prim.Native.Nat.{ℕ, zero, suc, _+_, _/_, _%_}
 use lib.Dec.{eqb, ltb}
@@ -32,7 +32,7 @@ use Rattle.receipt.specs.Answers.{searchingReceipt, readVariables}
 use Rattle.theory.specs.Formula.{Choice, clauses}
 use Rattle.theory.specs.Heads.{headsOf}
 use Rattle.theory.specs.SettledList.{decided}
-use Rattle.theory.specs.State.{State, initial}
+use Rattle.theory.specs.State.{initial}
 use Rattle.theory.specs.Table.{zeros, nonzeros, refused, check}
 use Rattle.theory.specs.Propagation.{Settled, dead, rest, settle}
 use Rattle.theory.specs.Tree.{Result}

@@ -1,5 +1,4 @@
 -- `of_byte` meets its contract: the mark of each byte, and a byte that is none of them.
-use borrow.Author.Needs.{needs}
 use borrow.Author.Tests.{ne-eqb}
 use Rattle.general.specs.Search.{find}
 use Rattle.theory.specs.declared.Mark.the-variants.{Placements, Chapter, Opens, Taken, LeftOut, Closes, Ends}

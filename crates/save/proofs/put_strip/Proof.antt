@@ -1,9 +1,6 @@
 -- `put_strip` meets its contract: the placements, the elements of the table and the end.
-use mathlib.Core.Path.{_≡_}
-use Prim.Native.Nat.{_+_, _<_, _≤_}
 use borrow.Author.Needs.{needs}
 use native.Mathlib.Omega.{arith}
-use lib.ListN.{length}
 use Rattle.general.specs.Appending.{append-both, appended-length}
 use Rattle.save.proofs.Elements.{strip-whole, strip-parts}
 use Rattle.save.proofs.put_strip.Statement.{statement}
