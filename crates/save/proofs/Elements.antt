@@ -63,13 +63,12 @@ strip-parts n t h = omega (arith, ap length (strip-whole n t h), length-append (
 module _ (t : List ℤ) (old : List ℕ) (at : ℕ) where
   -- after the first i elements
   pub record Reached (strip : List ℕ) (next : ℕ) (inside : Bool) (i : ℕ) : Type 0 where
-    pub reached : i ≤ length t
     pub written : List ℕ
     pub appended : Appended old at written strip next
     pub rest : written ++ elementsBytes inside (drop i t) ≡ elementsBytes false t
 
   pub begun : at ≤ length old → Reached old at false 0
-  begun h = record { reached = omega arith; written = []; appended = append-nothing old at h; rest = refl }
+  begun h = record { written = []; appended = append-nothing old at h; rest = refl }
 
   module _ {strip : List ℕ} {next : ℕ} {inside : Bool} {i : ℕ} (r : Reached strip next inside i) where
     pub ended : length t ≤ i → Appended old at (elementsBytes false t) strip next
@@ -91,4 +90,4 @@ module _ (t : List ℤ) (old : List ℕ) (at : ℕ) where
       room h = omega (arith, r .appended .ends, appended-length (r .appended), ap length next-rest, length-append (r .written ++ element) left, length-append (r .written) element)
 
       pub turned : (strip′ : List ℕ) (next′ : ℕ) → Appended strip next element strip′ next′ → Reached strip′ next′ (isOpen (literalOf (getD t i (pos 0)))) (i + 1)
-      turned strip′ next′ a = record { reached = omega arith; written = r .written ++ element; appended = append-both (r .appended) a; rest = next-rest }
+      turned strip′ next′ a = record { written = r .written ++ element; appended = append-both (r .appended) a; rest = next-rest }
