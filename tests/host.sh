@@ -35,7 +35,7 @@ same "layout, 16,385 bytes" "$(longer | "$prefix/bin/layout")" "refused 24 0"
 strip_of() { timeout 60 "$prefix/bin/strip_of"; }
 longest_table() { echo 256; for i in $(seq 512); do echo "$((i % 256 + 1)) -$((i % 7 + 250)) 3 -4 0"; done; }
 told() { # what is tried, the line it must write; the text from standard input
-    strip_of >"$prefix/out" 2>"$prefix/err"
+    strip_of >"$prefix/out" 2>"$prefix/err" || { echo "strip_of, $1: status $?"; exit 1; }
     same "strip_of, $1" "$(cat "$prefix/err")" "$2"
     same "strip_of, $1, its lines and bytes" "$(wc -l <"$prefix/err") $(wc -c <"$prefix/out")" "1 0"
 }

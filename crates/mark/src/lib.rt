@@ -1,4 +1,4 @@
-// The marks of a strip: the byte of each, and how long its operand is. They are known here alone: the reader reads them, and Save writes them.
+// The marks of a strip, and how long their operands are. The bytes of the marks are known here alone: the reader reads them, and Save writes them.
 ghost use mathlib.Core.Path.{_≡_};
 ghost use Rattle.theory.specs.Strip.{byteOf, markOf, operandBytes};
 ghost use Rattle.mark.specs.Found.{markFound};

@@ -7,7 +7,7 @@ use lib.IntN.{ℤ}
 use lib.ListN.{length}
 use Rattle.literal.specs.declared.Literal.{Literal}
 use Rattle.literal.specs.declared.Literal.the-variants.{Pos, Neg}
-use Rattle.literal.specs.Literal.{var}
+use Rattle.literal.specs.Literal.{var, maxVariables}
 use Rattle.receipt.specs.declared.Reading.the-variants.{Read}
 use Rattle.theory.specs.declared.Mark.the-variants.{Placements, Opens, Taken, LeftOut, Closes, Ends}
 use Rattle.theory.specs.Formula.{Clause, Formula, clauses}
@@ -26,15 +26,15 @@ byte-first : (x : ℕ) (s : List ℕ) → x < 256 → Bytes s → Bytes (x ∷ s
 byte-first x s h b zero = h
 byte-first x s h b (suc i) = b i
 
-word-first : (x v : ℕ) (s : List ℕ) → x < 256 → v ≤ 256 → Bytes s → Bytes (x ∷ v / 256 ∷ v % 256 ∷ s)
+word-first : (x v : ℕ) (s : List ℕ) → x < 256 → v ≤ maxVariables → Bytes s → Bytes (x ∷ v / 256 ∷ v % 256 ∷ s)
 word-first x v s h l b zero = h
 word-first x v s h l b (suc zero) = omega arith
 word-first x v s h l b (suc (suc zero)) = omega arith
 word-first x v s h l b (suc (suc (suc i))) = b i
 
--- every variable is one of so few that its number has two bytes
+-- every variable is within the limit, so that its high byte is a byte
 abbrev Small : Clause → Type 0
-Small c = (l : Literal) → List·Memᴰ l c → var l ≤ 256
+Small c = (l : Literal) → List·Memᴰ l c → var l ≤ maxVariables
 
 entries-bytes : (c : Clause) (s : List ℕ) → Small c → Bytes s → Bytes (entryBytes c ++ s)
 unfolding entryBytes

@@ -3,13 +3,13 @@
 ghost use mathlib.Core.Path.{_≡_};
 ghost use mathlib.Core.Bool.{false};
 ghost use mathlib.Core.List.{[], _∷_, _++_};
-ghost use Prim.Native.Nat.{_+_, _/_, _%_, _≤_, _<_};
+ghost use Prim.Native.Nat.{_+_, _≤_, _<_};
 ghost use lib.ListN.{length};
 ghost use Rattle.general.specs.Appending.{Appended};
 ghost use Rattle.literal.specs.Literal.{maxClauses, maxLiterals};
 ghost use Rattle.theory.specs.Strip.{byteOf};
 ghost use Rattle.theory.specs.Table.{endsOpen};
-ghost use Rattle.theory.specs.Encoding.{entryBytes, savedStrip, savedLength};
+ghost use Rattle.theory.specs.Encoding.{operandOf, entryBytes, savedStrip, savedLength};
 ghost use Rattle.theory.specs.Calls.{saveCall};
 ghost use Rattle.save.specs.Save.{openingBytes, elementBytes, elementsBytes, called};
 use literal::Literal;
@@ -37,7 +37,6 @@ fn put_byte(strip: &mut [u8], at: usize, byte: u8) -> usize
     at + 1
 }
 
-// A command without an operand.
 fn put_mark(strip: &mut [u8], at: usize, mark: Mark) -> usize
     requires { ⌜ at < length (now strip) ⌝ }
     ensures { λ r. ⌜ Appended (now (strip .entry)) at (byteOf mark ∷ []) (now (strip .exit)) r ⌝ }
@@ -48,7 +47,7 @@ fn put_mark(strip: &mut [u8], at: usize, mark: Mark) -> usize
 // A command with an operand of two bytes, "high byte first".
 fn put_command(strip: &mut [u8], at: usize, mark: Mark, operand: u16) -> usize
     requires { ⌜ at + 3 ≤ length (now strip) ⌝ }
-    ensures { λ r. ⌜ Appended (now (strip .entry)) at (byteOf mark ∷ operand / 256 ∷ operand % 256 ∷ []) (now (strip .exit)) r ⌝ }
+    ensures { λ r. ⌜ Appended (now (strip .entry)) at (byteOf mark ∷ operandOf 2 operand) (now (strip .exit)) r ⌝ }
 {
     let high = put_mark(strip, at, mark);
     let low = put_byte(strip, high, (operand / 256) as u8);

@@ -10,6 +10,8 @@ use trial::lists::signed;
 // The elements of a group of the table at the limits: four entries and a 0.
 const GROUP: usize = 5;
 
+const N: usize = Literal::MAX_VARIABLES;
+
 fn try_one(table: &[i16], n: usize, strip: &mut [u8]) {
     let answer = save::save(table, n, strip);
     show::receipt(answer.receipt());
@@ -103,9 +105,9 @@ fn at_the_limits() {
     let mut table = [0i16; Literal::MAX_TABLE];
     fill(&mut table);
     let mut short = [9u8; 7171];
-    shown(save::save(&table, 256, &mut short), &short);
+    shown(save::save(&table, N, &mut short), &short);
     let mut strip = [9u8; save::MAX_SAVED];
-    shown(save::save(&table, 256, &mut strip), &strip);
+    shown(save::save(&table, N, &mut strip), &strip);
     read_back(&strip, &table);
 }
 
@@ -115,9 +117,9 @@ fn past_the_limits() {
     let mut table = [0i16; 2561];
     fill(&mut table);
     put_entry(&mut table, 2560, 0);
-    shown(save::save(&table, 256, &mut strip), &strip);
+    shown(save::save(&table, N, &mut strip), &strip);
     put_entry(&mut table, 2559, 1);
-    shown(save::save(&table, 256, &mut strip), &strip);
+    shown(save::save(&table, N, &mut strip), &strip);
 }
 
 fn main() {

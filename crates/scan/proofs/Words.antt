@@ -15,12 +15,12 @@ use Rattle.general.specs.Booleans.{and-true}
 use Rattle.general.specs.Options.{cond-some}
 use Rattle.general.specs.Parts.{part}
 use Rattle.scan.specs.declared.Word.the-variants.{Number, Missing}
-use Rattle.scan.specs.Scan.{blank, isDigit, withDigit, digits, natural, numberOf, leading, wordStart, wordEnd, wordOf, wordAt}
+use Rattle.scan.specs.Scan.{isBlank, isDigit, withDigit, valueFrom, natural, integerOf, leading, wordStart, wordEnd, wordOf, wordAt}
 
 -- the bytes at the front that pass a test -----------------------------------------------------------------------------
 
 module _ (test : ℕ → Bool) where
-  pub leading-length : (s : List ℕ) → leading test s ≤ length s
+  leading-length : (s : List ℕ) → leading test s ≤ length s
   unfolding leading
   leading-length [] = omega arith
   leading-length (b ∷ s) = go (test b) (leading-length s)
@@ -50,21 +50,21 @@ pub digit-bounds : (b : ℕ) → isDigit b ≡ true → (48 ≤ b) × (b ≤ 57)
 digit-bounds b e = let k = and-true (leb 48 b) (leb b 57) e in (leb-true 48 b (k .0), leb-true b 57 (k .1))
 
 module _ (limit : ℕ) where
-  digits-limit : (v : ℕ) (w : List ℕ) (u : ℕ) → v ≤ limit → digits limit v w ≡ some u → u ≤ limit
-  unfolding digits
-  digits-limit v [] u h e = let q : v ≡ u = cc in omega arith
-  digits-limit v (b ∷ w) u h e =
+  value-limit : (v : ℕ) (w : List ℕ) (u : ℕ) → v ≤ limit → valueFrom limit v w ≡ some u → u ≤ limit
+  unfolding valueFrom
+  value-limit v [] u h e = let q : v ≡ u = cc in omega arith
+  value-limit v (b ∷ w) u h e =
       let k = cond-some (isDigit b && leb (withDigit v b) limit) _ u e in
-      digits-limit (withDigit v b) w u (leb-true _ limit (and-true (isDigit b) _ (k .0) .1)) (k .1)
+      value-limit (withDigit v b) w u (leb-true _ limit (and-true (isDigit b) _ (k .0) .1)) (k .1)
 
   pub natural-limit : (w : List ℕ) (u : ℕ) → some u ≡ natural limit w → u ≤ limit
-  natural-limit w u e = digits-limit 0 w u (omega arith) (cond-some (ltb 0 (length w)) _ u (sym e) .1)
+  natural-limit w u e = value-limit 0 w u (omega arith) (cond-some (ltb 0 (length w)) _ u (sym e) .1)
 
   module _ (w : List ℕ) where
     -- the value v of the digits before index i: those from there on give the value of all
     pub record Valued (v i : ℕ) : Type 0 where
       pub within : v ≤ limit
-      pub rest : digits limit v (drop i w) ≡ natural limit w
+      pub rest : valueFrom limit v (drop i w) ≡ natural limit w
 
     pub no-digits : length w ≡ 0 → none ≡ natural limit w
     no-digits h = rw (le-ltb 0 (length w) (omega arith))
@@ -74,21 +74,21 @@ module _ (limit : ℕ) where
 
     module _ {v i : ℕ} (a : Valued v i) where
       pub valued-ended : length w ≤ i → some v ≡ natural limit w
-      unfolding digits
+      unfolding valueFrom
       valued-ended h = rw (drop-of-length-le w h) at (a .rest)
 
       module _ (h : i < length w) where
         pub no-digit : isDigit (getD w i 0) ≡ false → none ≡ natural limit w
-        unfolding digits
+        unfolding valueFrom
         no-digit e = rw (drop-cons w i 0 h, e) at (a .rest)
 
         module _ (e : isDigit (getD w i 0) ≡ true) where
           pub past-limit : limit < withDigit v (getD w i 0) → none ≡ natural limit w
-          unfolding digits
+          unfolding valueFrom
           past-limit l = rw (drop-cons w i 0 h, e, lt-leb (withDigit v (getD w i 0)) limit l) at (a .rest)
 
           pub valued-more : withDigit v (getD w i 0) ≤ limit → Valued (withDigit v (getD w i 0)) (i + 1)
-          unfolding digits
+          unfolding valueFrom
           valued-more l = record { within = l; rest = rw add-one (rw (drop-cons w i 0 h, e, le-leb (withDigit v (getD w i 0)) limit l) at (a .rest)) }
 
 -- words ---------------------------------------------------------------------------------------------------------------
@@ -96,12 +96,12 @@ module _ (limit : ℕ) where
 -- a word that is there ends after its start, and within the text
 pub word-inside : (s : List ℕ) (a e : ℕ) → e ≡ wordEnd s a → (a ≡ e → ⊥) → (a < e) × (e ≤ length s)
 word-inside s a e q h =
-    let l = leading-length (λ b. not (blank b)) (drop a s) in
+    let l = leading-length (λ b. not (isBlank b)) (drop a s) in
     (omega arith, omega (arith, length-drop a s))
 
 pub number-inside : (s : List ℕ) (i : ℕ) (v : ℤ) (next : ℕ) → Number v next ≡ wordAt s i → (i < next) × (next ≤ length s)
 unfolding wordAt
-number-inside s i v next e = go (eqb a z) refl (numberOf (part a (z - a) s)) e
+number-inside s i v next e = go (eqb a z) refl (integerOf (part a (z - a) s)) e
   where
     a : ℕ
     a = wordStart s i

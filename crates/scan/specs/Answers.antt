@@ -9,7 +9,7 @@ use Rattle.scan.specs.declared.Natural.{Natural}
 use Rattle.scan.specs.declared.Natural.the-variants.{Value, Nothing}
 use Rattle.scan.specs.declared.Scanned.{Scanned}
 use Rattle.scan.specs.declared.Scanned.the-variants as scanned
-use Rattle.scan.specs.Scan.{blank, Filing, filing, wrong}
+use Rattle.scan.specs.Scan.{isBlank, Filing, filing, wrong}
 
 abbrev pub naturalOf : Natural → Option ℕ
 naturalOf (Value v) = some v
@@ -17,7 +17,7 @@ naturalOf Nothing = none
 
 -- blanks are asked for, or what is none
 abbrev pub blankIs : Bool → ℕ → Bool
-blankIs asked b = cond asked (blank b) (not (blank b))
+blankIs asked b = cond asked (isBlank b) (not (isBlank b))
 
 -- how many cells the table takes
 abbrev pub usedOf : Scanned → ℕ

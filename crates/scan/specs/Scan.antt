@@ -13,8 +13,8 @@ use Rattle.scan.specs.declared.Word.the-variants.{Number, Wrong, Missing
 -- Bytes -----------------------------------------------------------------------------------------------------------
 
 -- a space, or 9 to 13: tab, line feed, vertical tab, form feed, carriage return
-abbrev pub blank : ℕ → Bool
-blank b = eqb b 32 || (leb 9 b && leb b 13)
+abbrev pub isBlank : ℕ → Bool
+isBlank b = eqb b 32 || (leb 9 b && leb b 13)
 
 abbrev pub isDigit : ℕ → Bool
 isDigit b = leb 48 b && leb b 57
@@ -26,17 +26,24 @@ abbrev pub withDigit : ℕ → ℕ → ℕ
 withDigit v b = v * 10 + (b - 48)
 
 -- the value of the digits w after the value v; none where a byte is no digit, or where a value passes the limit
-unfoldable pub digits : ℕ → ℕ → List ℕ → Option ℕ
-digits limit v [] = some v
-digits limit v (b ∷ w) = cond (isDigit b && leb (withDigit v b) limit) (digits limit (withDigit v b) w) none
+unfoldable pub valueFrom : ℕ → ℕ → List ℕ → Option ℕ
+valueFrom limit v [] = some v
+valueFrom limit v (b ∷ w) = cond (isDigit b && leb (withDigit v b) limit) (valueFrom limit (withDigit v b) w) none
 
 -- one or more digits
 abbrev pub natural : ℕ → List ℕ → Option ℕ
-natural limit w = cond (ltb 0 (length w)) (digits limit 0 w) none
+natural limit w = cond (ltb 0 (length w)) (valueFrom limit 0 w) none
 
--- a word: digits, with a minus sign before them or none, from -32768 to 32767
-abbrev pub numberOf : List ℕ → Option ℤ
-numberOf w = cond (eqb (getD w 0 0) 45) (Option·map (λ v. negℤ (pos v)) (natural 32768 (drop 1 w))) (Option·map pos (natural 32767 w))
+-- the sizes of the largest and of the smallest number of 16 bits
+abbrev pub most : ℕ
+most = 32767
+
+abbrev pub mostNegative : ℕ
+mostNegative = 32768
+
+-- a word: digits, with a minus sign before them or none
+abbrev pub integerOf : List ℕ → Option ℤ
+integerOf w = cond (eqb (getD w 0 0) 45) (Option·map (λ v. negℤ (pos v)) (natural mostNegative (drop 1 w))) (Option·map pos (natural most w))
 
 -- Words -----------------------------------------------------------------------------------------------------------
 
@@ -47,10 +54,10 @@ leading test (b ∷ s) = cond (test b) (suc (leading test s)) 0
 
 -- the index of the first byte from i on that is no blank, and of the first that is one
 abbrev pub wordStart : List ℕ → ℕ → ℕ
-wordStart s i = i + leading blank (drop i s)
+wordStart s i = i + leading isBlank (drop i s)
 
 abbrev pub wordEnd : List ℕ → ℕ → ℕ
-wordEnd s i = i + leading (λ b. not (blank b)) (drop i s)
+wordEnd s i = i + leading (λ b. not (isBlank b)) (drop i s)
 
 abbrev pub wordOf : ℕ → ℕ → Option ℤ → Word
 wordOf a e none = Wrong a
@@ -58,7 +65,7 @@ wordOf a e (some v) = Number v e
 
 -- the word from index a to index e
 abbrev pub wordBetween : List ℕ → ℕ → ℕ → Word
-wordBetween s a e = cond (eqb a e) Missing (wordOf a e (numberOf (part a (e - a) s)))
+wordBetween s a e = cond (eqb a e) Missing (wordOf a e (integerOf (part a (e - a) s)))
 
 -- the first word from index i on
 unfoldable pub wordAt : List ℕ → ℕ → Word

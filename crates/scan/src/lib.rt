@@ -3,7 +3,7 @@ ghost use mathlib.Core.Path.{_≡_};
 ghost use Prim.Native.Nat.{_+_, _≤_, _<_};
 ghost use lib.IntN.{pos, negℤ};
 ghost use lib.ListN.{length, drop};
-ghost use Rattle.scan.specs.Scan.{blank, isDigit, natural, numberOf, leading, wordOf, wordAt, tableAt, filingOf};
+ghost use Rattle.scan.specs.Scan.{isBlank, isDigit, natural, mostNegative, integerOf, leading, wordOf, wordAt, tableAt, filingOf};
 ghost use Rattle.scan.specs.Answers.{naturalOf, blankIs, usedOf, scannedOf};
 
 // The sizes of the largest and of the smallest number of 16 bits.
@@ -14,7 +14,7 @@ const MOST_NEGATIVE: u32 = 32768;
 // Words ---------------------------------------------------------------------------------------------------------------
 
 // A word: its number and the index after it, or its place where it is no number, or that no word is left.
-pub enum Word {
+enum Word {
     Number(i16, usize),
     Wrong(usize),
     Missing,
@@ -28,7 +28,7 @@ enum Natural {
 
 // Space, tab, line feed, vertical tab, form feed, carriage return.
 fn is_blank(byte: u8) -> bool
-    ensures { λ r. ⌜ r ≡ blank byte ⌝ }
+    ensures { λ r. ⌜ r ≡ isBlank byte ⌝ }
 {
     byte == b' ' || (b'\t' <= byte && byte <= b'\r')
 }
@@ -41,7 +41,7 @@ fn is_digit(byte: u8) -> bool
 
 // The value of one or more digits, if it is within the limit.
 fn value_of(word: &[u8], limit: u32) -> Natural
-    requires { ⌜ limit ≤ 32768 ⌝ }
+    requires { ⌜ limit ≤ mostNegative ⌝ }
     ensures { λ r. ⌜ naturalOf r ≡ natural limit (now (word .entry)) ⌝ }
 {
     if word.len() == 0 {
@@ -63,7 +63,7 @@ fn value_of(word: &[u8], limit: u32) -> Natural
 
 // The opposite of a value, -32768 too.
 fn negated(value: u32) -> i16
-    requires { ⌜ value ≤ 32768 ⌝ }
+    requires { ⌜ value ≤ mostNegative ⌝ }
     ensures { λ r. ⌜ r ≡ negℤ (pos value) ⌝ }
 {
     (-(value as i32)) as i16
@@ -72,7 +72,7 @@ fn negated(value: u32) -> i16
 // The word that stands from one index to another.
 fn word_of(word: &[u8], start: usize, end: usize) -> Word
     requires { ⌜ 0 < length (now word) ⌝ }
-    ensures { λ r. ⌜ r ≡ wordOf start end (numberOf (now (word .entry))) ⌝ }
+    ensures { λ r. ⌜ r ≡ wordOf start end (integerOf (now (word .entry))) ⌝ }
 {
     if word[0] == b'-' {
         match value_of(&word[1..], MOST_NEGATIVE) {

@@ -12,7 +12,7 @@ use Rattle.receipt.specs.declared.Fault.the-variants.{StripTooLong}
 use Rattle.receipt.specs.declared.Refusal.{Refusal}
 use Rattle.receipt.specs.declared.Reading.{Reading}
 use Rattle.receipt.specs.declared.Reading.the-variants.{Read, Refused}
-use Rattle.receipt.specs.Receipt.{numberOf}
+use Rattle.receipt.specs.Receipt.{numberOf, refusal}
 use Rattle.receipt.specs.Answers.{readingReceipt}
 use Rattle.theory.specs.Strip.{nothingRead, Decoding, maxStrip, readStrip}
 use Rattle.theory.specs.Encoding.{Item, groups, tableOf, StripWithin, Bytes}
@@ -55,8 +55,8 @@ module _ (s : List ℕ) (t : List ℤ) (r : Reading) (t′ : List ℤ) (is : cal
       let a : Ended s (length t) 0 nothingRead [] (Refused f) (readStrip s (length t) .table) = rw (sym reading-is ∙ e) at (answered s (length t)) in
       table-is ∙ rw (a .0)
 
-  -- "24 first": over 16,384 bytes, and at no other time
-  pub read-too-long : (readingReceipt r .number ≡ numberOf StripTooLong) ↔ (maxStrip < length s)
+  -- "24 first, place 0": over 16,384 bytes, and at no other time
+  pub read-too-long : (readingReceipt r .number ≡ numberOf StripTooLong → maxStrip < length s) × (maxStrip < length s → r ≡ Refused (refusal StripTooLong 0))
   unfolding readStrip
   read-too-long = (go r reading-is, λ h. rw (reading-is, lt-ltb maxStrip (length s) h))
     where

@@ -55,7 +55,7 @@ unfolding groups
 groups-only [] = refl
 groups-only (c ∷ f) = ap (_∷_ c) (groups-only f)
 
--- the first bytes of two lists of bytes that are the same
+-- byte k, which is the same in equal strips
 abbrev byte : ℕ → List ℕ → ℕ
 byte k s = getD s k 0
 

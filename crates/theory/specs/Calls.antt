@@ -175,14 +175,14 @@ abbrev pub saveRefused : Refusal → List ℕ → SaveCall
 saveRefused r s = record { answer = saving.Refused r; strip = s }
 
 -- "past the written bytes it is untouched always"
-abbrev pub stripSaved : List ℕ → List ℕ → SaveCall
-stripSaved b s =
+abbrev pub savedCall : List ℕ → List ℕ → SaveCall
+savedCall b s =
     cond (ltb (length s) (length b)) (saveRefused (refusal StripShort 0) s)
     (record { answer = saving.Saved (length b); strip = over (length b) b s })
 
 abbrev pub saveChecked : Checked → ℕ → List ℤ → List ℕ → SaveCall
 saveChecked (Refused r) n t s = saveRefused r s
-saveChecked Passed n t s = stripSaved (savedStrip n t) s
+saveChecked Passed n t s = savedCall (savedStrip n t) s
 
 -- "Turned away: 1 to 5 as for any table, then 25, strip room short."
 unfoldable pub saveCall : ℕ → List ℤ → List ℕ → SaveCall

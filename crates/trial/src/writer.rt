@@ -53,14 +53,14 @@ fn opening(table: &[i16], i: usize, strip: &mut [u8], at: usize, seed: &mut u64)
 
 // An entry, or the mark that closes the clause.
 fn entry(table: &[i16], i: usize, strip: &mut [u8], at: usize) -> usize {
-    let entry = entry_at(table, i);
-    if entry == 0 {
+    let value = entry_at(table, i);
+    if value == 0 {
         return put_byte(strip, at, b'E');
     }
-    if entry < 0 {
-        return command(strip, at, b'L', size(entry));
+    if value < 0 {
+        return command(strip, at, b'L', size(value));
     }
-    command(strip, at, b'T', size(entry))
+    command(strip, at, b'T', size(value))
 }
 
 fn element(table: &[i16], i: usize, strip: &mut [u8], from: usize, seed: &mut u64) -> usize {
@@ -96,11 +96,11 @@ pub fn write(table: &[i16], n: usize, full: bool, strip: &mut [u8], seed: &mut u
 }
 
 fn plain_element(table: &[i16], i: usize, strip: &mut [u8], at: usize) -> usize {
+    let mut next = at;
     if opens(table, i) {
-        let next = put_byte(strip, at, b'G');
-        return entry(table, i, strip, next);
+        next = put_byte(strip, at, b'G');
     }
-    entry(table, i, strip, at)
+    entry(table, i, strip, next)
 }
 
 // The same without chapters.

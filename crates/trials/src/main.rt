@@ -1,4 +1,4 @@
-// Every operation beside something that shares no definition with it: a solver that tries all choices, slow checks of tables, a slow reader. For each operation the
+// Every operation beside something that shares no definition with it: a solver that tries all choices, slow checks of tables, a slow reader, a plain writer. For each operation the
 // program prints how many answers of each number there were, and how many were not as expected.
 mod add_trial;
 mod index_trial;
@@ -20,6 +20,7 @@ enum Operation {
     Index,
     Read,
     Save,
+    SaveAgain,
 }
 
 fn tried(operation: Operation, number: usize, tally: Tally) -> Tally {
@@ -34,6 +35,7 @@ fn tried(operation: Operation, number: usize, tally: Tally) -> Tally {
         Operation::Index => index_trial::tried(filing, formula, &mut seed, tally),
         Operation::Read => read_trial::tried(filing, formula, &mut seed, tally),
         Operation::Save => save_trial::tried(filing, formula, &mut seed, tally),
+        Operation::SaveAgain => save_trial::tried_again(filing, formula, &mut seed, tally),
     }
 }
 
@@ -110,6 +112,14 @@ fn save_all() -> usize {
     tally.disagreements
 }
 
+fn save_again_all() -> usize {
+    show::text(b"read, then save\n");
+    let tally = tally_of(Operation::SaveAgain);
+    tally.show(b"strips saved", 18);
+    tally.show_disagreements();
+    tally.disagreements
+}
+
 fn main() {
     show::text(b"filings");
     show::number(FILINGS as u64);
@@ -120,7 +130,8 @@ fn main() {
     let index = wrapping_add_usize(add, index_all());
     let read = wrapping_add_usize(index, read_all());
     let save = wrapping_add_usize(read, save_all());
+    let again = wrapping_add_usize(save, save_again_all());
     show::text(b"all disagreements");
-    show::number(save as u64);
+    show::number(again as u64);
     show::text(b"\n");
 }

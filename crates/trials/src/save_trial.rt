@@ -60,7 +60,8 @@ fn read_back(strip: &[u8], table: &[i16], n: usize, tally: Tally) -> Tally {
     let mut back = [9i16; ROOM];
     let reading = strip::read(strip, &mut back);
     let receipt = reading.receipt();
-    let same = reading.variables() == n
+    let same = receipt.number == 16
+        && reading.variables() == n
         && reading.used() == table.len()
         && same_entries(part(&back, 0, table.len()), table);
     let slow = is_filing(expected(strip, ROOM), table, n);
@@ -84,7 +85,7 @@ fn saved_again(strip: &[u8], tally: Tally) -> Tally {
     }
     let run = run_of(filing, reading.variables(), STRIP);
     let bytes = run.strip;
-    let same = run.receipt.place == strip.len() && holds(bytes, strip);
+    let same = run.receipt.number == 18 && run.receipt.place == strip.len() && holds(bytes, strip);
     tally.judged(run.receipt.number, same, filing, reading.variables())
 }
 
@@ -105,14 +106,23 @@ pub fn tried(table: &[i16], formula: Formula, seed: &mut u64, tally: Tally) -> T
     let n = formula.n;
     let mut out = [0u8; STRIP];
     let length = write_plain(table, n, &mut out);
-    let strip = first_bytes(&out, length);
     let room = room_of(seed, length, STRIP);
     let verdict = trial::verdict::of_table(table, n).then_room(room, length, 25);
     let run = run_of(table, n, room);
-    let mut all = tally.judged(run.receipt.number, is_right(run, verdict, strip), table, n);
+    let right = is_right(run, verdict, first_bytes(&out, length));
+    let all = tally.judged(run.receipt.number, right, table, n);
     if verdict.passes() {
-        all = saved(run, table, n, all);
+        return saved(run, table, n, all);
     }
-    all = saved_again(strip, all);
+    all
+}
+
+// Strips without chapters, whole and damaged, are read and saved.
+pub fn tried_again(table: &[i16], formula: Formula, seed: &mut u64, tally: Tally) -> Tally {
+    let mut out = [0u8; STRIP];
+    let length = write_plain(table, formula.n, &mut out);
+    let strip = first_bytes(&out, length);
+    let mut all = saved_again(strip, tally);
+    all = saved_damaged(strip, seed, all);
     saved_damaged(strip, seed, all)
 }

@@ -6,7 +6,7 @@ use Prim.Native.String.{String}
 use Rattle.theory.specs.Formula.{clauses}
 use Rattle.theory.specs.Table.{check, zeros, nonzeros, endsOpen, unknownFrom}
 use Rattle.theory.specs.Encoding.{entryBytes, itemBytes, savedStrip}
-use Rattle.scan.specs.Scan.{digits, leading, wordAt, tableFrom}
+use Rattle.scan.specs.Scan.{valueFrom, leading, wordAt, tableFrom}
 use Rattle.text.specs.Text.{codes, digitsWithin, decimal, spaced}
 use Rattle.typed.specs.Typed.{Output, strip, message, outputOf}
 
@@ -28,5 +28,5 @@ rows =
     ∷ []
 
 pub examples-hold : map (λ (r : Row). outputOf (r .text)) rows ≡ map (λ (r : Row). r .output) rows
-unfolding outputOf wordAt leading digits tableFrom check zeros nonzeros endsOpen unknownFrom clauses savedStrip itemBytes entryBytes decimal digitsWithin spaced
+unfolding outputOf wordAt leading valueFrom tableFrom check zeros nonzeros endsOpen unknownFrom clauses savedStrip itemBytes entryBytes decimal digitsWithin spaced
 examples-hold = refl

@@ -33,6 +33,7 @@ use Rattle.theory.specs.Formula.{Clause, Formula, Choice, push, clauses, Soluti
 use Rattle.theory.specs.Order.{_≼_, Least}
 use Rattle.theory.specs.Search.{needs}
 use Rattle.theory.specs.Strip.{Decoding, nothingRead, readStrip}
+use Rattle.theory.proofs.Encodings.{clauses-table}
 use Rattle.theory.proofs.Tables.{accepted-sizes}
 use Rattle.strip.proofs.Accepted.{read-accepted}
 use Rattle.strip.proofs.Ends.{Ended, answered}
@@ -45,21 +46,6 @@ use Rattle.window.proofs.Calling.{call-short}
 use Rattle.window.specs.Call.{Acceptable, Stamped, Call, Reports, refusedCall, numberAt, countOf, Alike}
 
 -- the table of a strip within the limits ---------------------------------------------------------------------------
-
-entry-row : (c : Clause) (t : List ℤ) → ((x : Literal) → List·Memᴰ x c → 0 < var x) → clauses (map entryOf c ++ (posℤ 0 ∷ t)) ≡ c ∷ clauses t
-unfolding clauses
-entry-row [] t h = refl
-entry-row (Pos zero ∷ c) t h = absurd (omega (arith, h (Pos zero) (List·Memᴰ·head refl)))
-entry-row (Neg zero ∷ c) t h = absurd (omega (arith, h (Neg zero) (List·Memᴰ·head refl)))
-entry-row (Pos (suc p) ∷ c) t h = ap (push (Pos (suc p))) (entry-row c t (λ x m. h x (List·Memᴰ·tail m)))
-entry-row (Neg (suc p) ∷ c) t h = ap (push (Neg (suc p))) (entry-row c t (λ x m. h x (List·Memᴰ·tail m)))
-
--- the table of a formula is read as that formula
-table-clauses : (f : Formula) → ((c : Clause) (x : Literal) → List·Memᴰ c f → List·Memᴰ x c → 0 < var x) → clauses (tableOf f) ≡ f
-unfolding tableOf clauses
-table-clauses [] h = refl
-table-clauses (c ∷ f) h =
-    entry-row c (tableOf f) (λ x. h c x (List·Memᴰ·head refl)) ∙ ap (λ (g : Formula). c ∷ g) (table-clauses f (λ d x m. h d x (List·Memᴰ·tail m)))
 
 table-length : (f : Formula) → length (tableOf f) ≡ length f + entries f
 unfolding tableOf entries
@@ -224,7 +210,7 @@ module _ {s : List ℕ} {n : ℕ} {l : List Item} {b : ℕ} {plan old : List ℕ
   reported e = ap (λ (c : WindowCall). c .number) (window-searches .1) ∙ e
 
   is-formula : clauses table ≡ groups l
-  is-formula = table-clauses (groups l) (h .acceptable .strip .known .low)
+  is-formula = clauses-table (groups l) (h .acceptable .strip .known .low)
 
   -- demand 1: "a search brings back a layout, no layout, or a stop"
   pub window-ends : Reports w LaidOut ⊎ Reports w NoLayout ⊎ Reports w Stopped

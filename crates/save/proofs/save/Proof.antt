@@ -23,22 +23,22 @@ accepted : (c : tie.After-enum-told) → let a = c .before .before .before .befo
 accepted c = checked (c .before .before) ∙ c .enum-told .given .1
 
 -- the tally has the table's groups and entries
-groups : (c : tie.After-tally-of) → c .tally-of .result .clauses ≡ zeros (c .before .before .args .table .now)
-groups c = ap (λ (y : Tally). y .clauses) (c .tally-of .ensures) ∙ tally-clauses _ _
+clauses-counted : (c : tie.After-tally-of) → c .tally-of .result .clauses ≡ zeros (c .before .before .args .table .now)
+clauses-counted c = ap (λ (y : Tally). y .clauses) (c .tally-of .ensures) ∙ tally-clauses _ _
 
-entries : (c : tie.After-tally-of) → c .tally-of .result .literals ≡ nonzeros (c .before .before .args .table .now)
-entries c = ap (λ (y : Tally). y .literals) (c .tally-of .ensures) ∙ tally-literals _ _
+literals-counted : (c : tie.After-tally-of) → c .tally-of .result .literals ≡ nonzeros (c .before .before .args .table .now)
+literals-counted c = ap (λ (y : Tally). y .literals) (c .tally-of .ensures) ∙ tally-literals _ _
 
 saved-length-requires : tie.Need-saved-length-requires
 saved-length-requires c κs =
     let y = c .before .before .before in
     let a = y .before .before .args in
     let w = accepted-sizes (a .n) (a .table .now) (accepted c) in
-    (omega (arith, groups y, w .clauses), omega (arith, entries y, w .literals))
+    (omega (arith, clauses-counted y, w .clauses), omega (arith, literals-counted y, w .literals))
 
 bytes : (c : tie.After-saved-length) →
     let t = c .before .before .before .before .before .before .args .table .now in c .saved-length .result ≡ savedLength (zeros t) (nonzeros t)
-bytes c = let y = c .before .before .before .before in omega (arith, c .saved-length .ensures, groups y, entries y)
+bytes c = let y = c .before .before .before .before in omega (arith, c .saved-length .ensures, clauses-counted y, literals-counted y)
 
 returns : tie.Need-returns
 returns c =

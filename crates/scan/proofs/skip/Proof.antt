@@ -7,7 +7,7 @@ use borrow.Author.Needs.{needs}
 use borrow.Author.Tests.{not-true, not-false}
 use native.Mathlib.Omega.{arith}
 use lib.ListN.{length, drop, getD}
-use Rattle.scan.specs.Scan.{blank, leading}
+use Rattle.scan.specs.Scan.{isBlank, leading}
 use Rattle.scan.specs.Answers.{blankIs}
 use Rattle.scan.proofs.Words.{leading-more, leading-stops, leading-end}
 use Rattle.scan.proofs.skip.Statement.{statement}
@@ -20,9 +20,9 @@ abbrev μ-loop : tie.MeasureT-loop
 μ-loop text at blanks i₀ i = length text - i
 
 -- the test of a byte is a comparison of truth values
-module _ {r : Bool} (asked : Bool) (s : List ℕ) (i : ℕ) (h : i < length s) (e : r ≡ blank (getD s i 0)) where
+module _ {r : Bool} (asked : Bool) (s : List ℕ) (i : ℕ) (h : i < length s) (e : r ≡ isBlank (getD s i 0)) where
   test-is : blankIs asked (getD s i 0) ≡ Bool·beq r asked
-  test-is = rw e (go asked (blank (getD s i 0)))
+  test-is = rw e (go asked (isBlank (getD s i 0)))
     where
       go : (k x : Bool) → cond k x (not x) ≡ Bool·beq x k
       go true true = refl

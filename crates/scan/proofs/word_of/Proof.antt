@@ -11,7 +11,7 @@ use lib.ListN.{length, getD, drop, length-drop}
 use lib.Seq.{take-all}
 use mir.Syntax.{w16}
 use mir.ValLaws.{toZ-ofZ, toZ-pos}
-use Rattle.scan.specs.Scan.{natural, numberOf, wordOf}
+use Rattle.scan.specs.Scan.{natural, integerOf, wordOf}
 use Rattle.scan.specs.Answers.{naturalOf}
 use Rattle.scan.proofs.Words.{natural-limit}
 use Rattle.scan.proofs.word_of.Statement.{statement}
@@ -19,10 +19,10 @@ use Rattle.scan.proofs.word_of.Tie as tie
 
 -- the digits after a minus sign, and the whole word
 module _ (w : List ℕ) {o : Option ℕ} where
-  negative : getD w 0 0 ≡ 45 → o ≡ natural 32768 (drop 1 w) → Option·map (λ v. negℤ (pos v)) o ≡ numberOf w
+  negative : getD w 0 0 ≡ 45 → o ≡ natural 32768 (drop 1 w) → Option·map (λ v. negℤ (pos v)) o ≡ integerOf w
   negative m e = rw (e, eq-eqb (getD w 0 0) 45 m)
 
-  plain : (getD w 0 0 ≡ 45 → ⊥) → o ≡ natural 32767 w → Option·map pos o ≡ numberOf w
+  plain : (getD w 0 0 ≡ 45 → ⊥) → o ≡ natural 32767 w → Option·map pos o ≡ integerOf w
   plain m e = rw (e, ne-eqb (getD w 0 0) 45 m)
 
 after-minus : (c : tie.After-value-of) → naturalOf (c .value-of .result) ≡ natural 32768 (drop 1 (c .before .before .before .before .before .args .word .now))
