@@ -96,11 +96,11 @@ pub fn write(table: &[i16], n: usize, full: bool, strip: &mut [u8], seed: &mut u
 }
 
 fn plain_element(table: &[i16], i: usize, strip: &mut [u8], at: usize) -> usize {
-    let mut next = at;
     if opens(table, i) {
-        next = put_byte(strip, at, b'G');
+        let next = put_byte(strip, at, b'G');
+        return entry(table, i, strip, next);
     }
-    entry(table, i, strip, next)
+    entry(table, i, strip, at)
 }
 
 // The same without chapters.

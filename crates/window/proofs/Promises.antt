@@ -4,8 +4,8 @@
 use mathlib.Core.Path.{_≡_, refl, ap, sym, _∙_}
 use mathlib.Core.Bool.{true}
 use mathlib.Core.Logic.{_⊎_, inl, inr, ⊎-elim, _↔_}
-use mathlib.Core.List.{List, [], _∷_, _++_, map, List·Memᴰ, List·Memᴰ·head, List·Memᴰ·tail}
-use Prim.Native.Nat.{ℕ, zero, suc, _+_, _≤_, _<_, min}
+use mathlib.Core.List.{List, [], _∷_, map}
+use Prim.Native.Nat.{ℕ, _+_, _≤_, _<_, min}
 use native.Mathlib.Decide.{decLt}
 use native.Mathlib.Omega.{arith}
 use borrow.Author.Tests.{le-ltb}
@@ -13,8 +13,7 @@ use lib.IntN.{ℤ, pos as posℤ}
 use lib.ListN.{length, take, drop, replicate, length-map, length-append, length-replicate}
 use Rattle.general.specs.Booleans.{bit}
 use Rattle.literal.specs.declared.Literal.{Literal}
-use Rattle.literal.specs.declared.Literal.the-variants.{Pos, Neg}
-use Rattle.literal.specs.Literal.{var, entryOf, maxVariables, maxTable}
+use Rattle.literal.specs.Literal.{entryOf, maxVariables, maxTable}
 use Rattle.receipt.specs.declared.Fault.the-variants.{PlanShort, ReceiptShort, TableShort}
 use Rattle.receipt.specs.declared.Outcome.{Outcome}
 use Rattle.receipt.specs.declared.Outcome.the-variants.{LaidOut, NoLayout, Stopped}
@@ -29,7 +28,7 @@ use Rattle.receipt.proofs.Numbers.{answers, not-refused}
 use Rattle.theory.specs.Bound.{N}
 use Rattle.theory.specs.Calls.{over, SearchCall, searchRefused, searchCall, readCall, solveCall, receiptLength, receiptBytes, WindowCall, written, windowCall}
 use Rattle.theory.specs.Encoding.{Item, groups, tableOf, entries, StripWithin, Bytes}
-use Rattle.theory.specs.Formula.{Clause, Formula, Choice, push, clauses, Solution}
+use Rattle.theory.specs.Formula.{Formula, Choice, clauses, Solution}
 use Rattle.theory.specs.Order.{_≼_, Least}
 use Rattle.theory.specs.Search.{needs}
 use Rattle.theory.specs.Strip.{Decoding, nothingRead, readStrip}
