@@ -1,4 +1,4 @@
--- Tables and formulas are two faces of one filing, so are strips and their items; and how long a saved strip is.
+-- Tables and formulas are two faces of one filing, so are strips and their items; how long a saved strip is, and that it is a strip within the limits.
 use mathlib.Core.Path.{_≡_, refl, ap, sym, _∙_}
 use mathlib.Core.Bool.{Bool, true, false}
 use mathlib.Core.List.{List, [], _∷_, _++_, map, List·Memᴰ, List·Memᴰ·head, List·Memᴰ·tail}
@@ -9,13 +9,13 @@ use lib.IntN.{ℤ, negsuc, pos as posℤ}
 use lib.ListN.{length, getD, drop, length-append}
 use Rattle.literal.specs.declared.Literal.{Literal}
 use Rattle.literal.specs.declared.Literal.the-variants.{Pos, Neg}
-use Rattle.literal.specs.Literal.{var, entryOf}
-use Rattle.theory.specs.declared.Mark.the-variants.{Closes}
+use Rattle.literal.specs.Literal.{var, entryOf, maxVariables}
+use Rattle.theory.specs.declared.Mark.the-variants.{Placements, Opens, Taken, LeftOut, Closes, Ends}
 use Rattle.theory.specs.Formula.{Clause, Formula, clauses}
 use Rattle.theory.specs.Strip.{byteOf, maxStrip}
 use Rattle.theory.specs.Table.{zeros, nonzeros, endsOpen, Accepted}
-use Rattle.theory.specs.Encoding.{Item, chapter, group, entryBytes, itemBytes, encode, groups, tableOf, entries, savedStrip, savedLength, maxSaved}
-use Rattle.theory.proofs.Tables.{first-clause, accepted-closed, accepted-sizes}
+use Rattle.theory.specs.Encoding.{Item, chapter, group, entryBytes, itemBytes, encode, groups, tableOf, entries, savedStrip, savedLength, maxSaved, StripWithin, Bytes}
+use Rattle.theory.proofs.Tables.{first-clause, accepted-closed, accepted-sizes, accepted-within}
 use Rattle.theory.proofs.Heads.{clauses-zeros}
 
 -- tables and formulas -------------------------------------------------------------------------------------------------
@@ -92,7 +92,7 @@ encode-injective n m l k e = (word-same _ _ n m _ _ e, items-same l k (ap (drop 
 
 -- the length of a saved strip -----------------------------------------------------------------------------------------
 
-pub entries-nonzeros : (b : Bool) (t : List ℤ) → endsOpen b t ≡ false → entries (clauses t) ≡ nonzeros t
+entries-nonzeros : (b : Bool) (t : List ℤ) → endsOpen b t ≡ false → entries (clauses t) ≡ nonzeros t
 unfolding endsOpen clauses entries nonzeros
 entries-nonzeros b [] h = refl
 entries-nonzeros b (posℤ zero ∷ t) h = omega (arith, entries-nonzeros false t h)
@@ -127,3 +127,55 @@ saved-most n t a = let w = accepted-sizes n t a in omega (arith, saved-length n 
 -- none is "over 16,384 bytes"
 pub saved-short : (n : ℕ) (t : List ℤ) → Accepted n t → length (savedStrip n t) ≤ maxStrip
 saved-short n t a = omega (arith, saved-most n t a)
+
+-- a saved strip is of bytes, and within the limits --------------------------------------------------------------------
+
+byte-first : (x : ℕ) (s : List ℕ) → x < 256 → Bytes s → Bytes (x ∷ s)
+byte-first x s h b zero = h
+byte-first x s h b (suc i) = b i
+
+word-first : (x v : ℕ) (s : List ℕ) → x < 256 → v ≤ maxVariables → Bytes s → Bytes (x ∷ v / 256 ∷ v % 256 ∷ s)
+word-first x v s h l b zero = h
+word-first x v s h l b (suc zero) = omega arith
+word-first x v s h l b (suc (suc zero)) = omega arith
+word-first x v s h l b (suc (suc (suc i))) = b i
+
+-- every variable is within the limit, so that its high byte is a byte
+abbrev Small : Clause → Type 0
+Small c = (l : Literal) → List·Memᴰ l c → var l ≤ maxVariables
+
+entries-bytes : (c : Clause) (s : List ℕ) → Small c → Bytes s → Bytes (entryBytes c ++ s)
+unfolding entryBytes
+entries-bytes [] s h b = b
+entries-bytes (Pos p ∷ c) s h b =
+    word-first (byteOf Taken) p (entryBytes c ++ s) (omega arith) (h (Pos p) (List·Memᴰ·head refl)) (entries-bytes c s (λ l m. h l (List·Memᴰ·tail m)) b)
+entries-bytes (Neg p ∷ c) s h b =
+    word-first (byteOf LeftOut) p (entryBytes c ++ s) (omega arith) (h (Neg p) (List·Memᴰ·head refl)) (entries-bytes c s (λ l m. h l (List·Memᴰ·tail m)) b)
+
+items-bytes : (f : Formula) → ((c : Clause) → List·Memᴰ c f → Small c) → Bytes (itemBytes (map group f))
+unfolding itemBytes
+items-bytes [] h = byte-first (byteOf Ends) [] (omega arith) (λ i. omega arith)
+items-bytes (c ∷ f) h =
+    let rest = itemBytes (map group f) in
+    let after = byteOf Closes ∷ rest in
+    byte-first (byteOf Opens) (entryBytes c ++ after) (omega arith)
+    (entries-bytes c after (h c (List·Memᴰ·head refl)) (byte-first (byteOf Closes) rest (omega arith) (items-bytes f (λ d m. h d (List·Memᴰ·tail m)))))
+
+module _ (n : ℕ) (t : List ℤ) (a : Accepted n t) where
+  pub saved-bytes : Bytes (savedStrip n t)
+  unfolding savedStrip
+  saved-bytes =
+      let few = accepted-sizes n t a .variables in
+      word-first (byteOf Placements) n (itemBytes (map group (clauses t))) (omega arith) few (items-bytes (clauses t) (λ c m l k. omega (arith, few, accepted-within n t a .high c l m k)))
+
+  -- it is within the limits, of n placements and the groups of the table
+  pub saved-within : StripWithin (savedStrip n t) n (map group (clauses t))
+  unfolding savedStrip
+  saved-within = let w = accepted-sizes n t a in record {
+    is = refl;
+    short = saved-short n t a;
+    variables = w .variables;
+    clauses = rw (groups-only (clauses t), clauses-zeros t) (w .clauses);
+    literals = rw (groups-only (clauses t), entries-nonzeros _ t (accepted-closed n t a)) (w .literals);
+    known = rw (groups-only (clauses t)) (accepted-within n t a);
+  }

@@ -1,4 +1,4 @@
--- `negated` meets its contract: a value up to 32768 has an opposite of 16 bits.
+-- `negated` meets its contract: a value up to 32,768 has an opposite of 16 bits.
 use mathlib.Core.Path.{_≡_}
 use Prim.Native.Nat.{ℕ, zero, suc, _≤_}
 use borrow.Author.Needs.{needs}
@@ -8,18 +8,19 @@ use mir.Syntax.{w16, w32}
 use mir.Val.{toZ, ofZ, SFits}
 use mir.ValLaws.{toZ-ofZ, toZ-pos}
 use Rattle.literal.proofs.Signed.{neg-fits, negated}
+use Rattle.scan.specs.Scan.{mostNegative}
 use Rattle.scan.proofs.negated.Statement.{statement}
 use Rattle.scan.proofs.negated.Tie as tie
 
 -- the value as the machine reads it back, signed
-read : (n : ℕ) → n ≤ 32768 → toZ w32 n ≡ pos n
+read : (n : ℕ) → n ≤ mostNegative → toZ w32 n ≡ pos n
 read n h = toZ-pos w32 n (omega arith)
 
-opposite-fits : (n : ℕ) → n ≤ 32768 → SFits w16 (negℤ (pos n))
+opposite-fits : (n : ℕ) → n ≤ mostNegative → SFits w16 (negℤ (pos n))
 opposite-fits zero h = record { sfits = omega arith }
 opposite-fits (suc n) h = record { sfits = omega arith }
 
-read-opposite : (n : ℕ) → n ≤ 32768 → toZ w32 (ofZ w32 (pos 0 -ℤ toZ w32 n)) ≡ negℤ (pos n)
+read-opposite : (n : ℕ) → n ≤ mostNegative → toZ w32 (ofZ w32 (pos 0 -ℤ toZ w32 n)) ≡ negℤ (pos n)
 read-opposite n h = rw (read n h) (negated w32 (pos n) (omega arith))
 
 pub negated-spec : {M : Type 1} → statement M

@@ -11,7 +11,7 @@ use lib.ListN.{length, getD, drop, length-drop}
 use lib.Seq.{take-all}
 use mir.Syntax.{w16}
 use mir.ValLaws.{toZ-ofZ, toZ-pos}
-use Rattle.scan.specs.Scan.{natural, integerOf, wordOf}
+use Rattle.scan.specs.Scan.{natural, most, mostNegative, integerOf, wordOf}
 use Rattle.scan.specs.Answers.{naturalOf}
 use Rattle.scan.proofs.Words.{natural-limit}
 use Rattle.scan.proofs.word_of.Statement.{statement}
@@ -19,26 +19,26 @@ use Rattle.scan.proofs.word_of.Tie as tie
 
 -- the digits after a minus sign, and the whole word
 module _ (w : List ℕ) {o : Option ℕ} where
-  negative : getD w 0 0 ≡ 45 → o ≡ natural 32768 (drop 1 w) → Option·map (λ v. negℤ (pos v)) o ≡ integerOf w
+  negative : getD w 0 0 ≡ 45 → o ≡ natural mostNegative (drop 1 w) → Option·map (λ v. negℤ (pos v)) o ≡ integerOf w
   negative m e = rw (e, eq-eqb (getD w 0 0) 45 m)
 
-  plain : (getD w 0 0 ≡ 45 → ⊥) → o ≡ natural 32767 w → Option·map pos o ≡ integerOf w
+  plain : (getD w 0 0 ≡ 45 → ⊥) → o ≡ natural most w → Option·map pos o ≡ integerOf w
   plain m e = rw (e, ne-eqb (getD w 0 0) 45 m)
 
-after-minus : (c : tie.After-value-of) → naturalOf (c .value-of .result) ≡ natural 32768 (drop 1 (c .before .before .before .before .before .args .word .now))
+after-minus : (c : tie.After-value-of) → naturalOf (c .value-of .result) ≡ natural mostNegative (drop 1 (c .before .before .before .before .before .args .word .now))
 after-minus c =
     let w = c .before .before .before .before .before .args .word .now in
     rw (take-all (length w - 1) (drop 1 w) (omega (arith, length-drop 1 w))) at (c .value-of .ensures)
 
-value-after-minus : (c : tie.After-value) → some (c .value .given .0 .0) ≡ natural 32768 (drop 1 (c .before .before .before .before .before .before .before .args .word .now))
+value-after-minus : (c : tie.After-value) → some (c .value .given .0 .0) ≡ natural mostNegative (drop 1 (c .before .before .before .before .before .before .before .args .word .now))
 value-after-minus c = sym (ap naturalOf (c .value .given .1)) ∙ after-minus (c .before .before)
 
-value-alone : (c : tie.After-value2) → some (c .value2 .given .0 .0) ≡ natural 32767 (c .before .before .before .before .before .before .args .word .now)
+value-alone : (c : tie.After-value2) → some (c .value2 .given .0 .0) ≡ natural most (c .before .before .before .before .before .before .args .word .now)
 value-alone c = sym (ap naturalOf (c .value2 .given .1)) ∙ c .before .before .value-of2 .ensures
 
 -- a value that has 16 bits
-alone-within : (c : tie.After-value2) → c .value2 .given .0 .0 ≤ 32767
-alone-within c = natural-limit 32767 (c .before .before .before .before .before .before .args .word .now) _ (value-alone c)
+alone-within : (c : tie.After-value2) → c .value2 .given .0 .0 ≤ most
+alone-within c = natural-limit most (c .before .before .before .before .before .before .args .word .now) _ (value-alone c)
 
 returns : tie.Need-returns
 returns c =
@@ -76,7 +76,7 @@ word-of-spec =
     (λ c. search needs)
     (λ c κs. search needs)
     (λ c. search needs)
-    (λ c κs. natural-limit 32768 (drop 1 (c .before .before .before .before .before .before .before .before .args .word .now)) _ (value-after-minus (c .before)))
+    (λ c κs. natural-limit mostNegative (drop 1 (c .before .before .before .before .before .before .before .before .args .word .now)) _ (value-after-minus (c .before)))
     (λ c. search needs)
     (λ c κs. search needs)
     (λ c. search needs)
