@@ -20,10 +20,12 @@ use Rattle.receipt.proofs.Numbers.{not-refused}
 use Rattle.theory.specs.Calls.{AddCall, added, addCall}
 use Rattle.theory.specs.Formula.{clauses}
 use Rattle.theory.specs.Table.{zeros, nonzeros, endsOpen, WithinLimits}
+use Rattle.theory.specs.Unknown.{UnknownInAdd, Names}
 use Rattle.theory.proofs.Tables.{zeros-append, nonzeros-append, length-elements, endsOpen-append, closed-ends, accepted-exactly, accepted-closed, clauses-append, clauses-one, no-zeros}
 use Rattle.add.specs.Add.{checkAdded, called}
 use Rattle.add.specs.Addable.{Addable}
 use Rattle.add.proofs.Refusals.{unlessRefused, call-checked, checked-exactly}
+use Rattle.add.proofs.Unknown.{call-names}
 
 abbrev pub numberOf : Adding → ℕ
 numberOf r = addingReceipt r .number
@@ -132,6 +134,10 @@ module _ {u n : ℕ} {g b : List ℤ} {r : Adding} {b′ : List ℤ} (c : Call u
       go : {r : Adding} {b′ : List ℤ} → Way u n g b r b′ → r ≡ adding.Refused w → (b′ ≡ b) × (addedLength r ≡ 0)
       go (refused x h) q = (refl, refl)
       go (stored a) q = absurd (let z : _≡_ {A = ℕ} 0 1 = cc in omega arith)
+
+  -- A2: 5 is for the first unknown placement of the used part, or for the first wrong element of the list, with its group; "for all other numbers it is 0"
+  pub add-names : Names (UnknownInAdd n (take u b) g) (addingReceipt r)
+  add-names = rw (ap (λ (s : AddCall). s .answer) (c .is)) (call-names u n g b)
 
   -- 15: the list is stored, and the used part is a table again
   pub add-stores : numberOf r ≡ 15 → Stored u n g b b′ (addedLength r)

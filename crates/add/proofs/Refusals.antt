@@ -1,9 +1,10 @@
 -- What Add asks before it writes: the first wrong element of the list, the checks in their order, and the room that they leave.
-use Prim.Native.Nat.{ℕ, zero, suc, _+_, _≤_, _<_}
-use mathlib.Core.Path.{_≡_, refl}
+use mathlib.Core.Option.{Option, none, some}
+use Prim.Native.Nat.{ℕ, zero, suc, _+_, _≤_, _<_, min}
+use mathlib.Core.Path.{_≡_, refl, ap}
 use mathlib.Core.Bool.{Bool, true, false, not, _||_, cond}
-use mathlib.Core.Logic.{⊎-elim, _↔_}
-use mathlib.Core.List.{List, [], _∷_, List·Memᴰ, List·Memᴰ·head, List·Memᴰ·tail, List·Memᴰ·not-nil, List·Memᴰ·cases-cons}
+use mathlib.Core.Logic.{_↔_}
+use mathlib.Core.List.{List, List·Memᴰ}
 use native.Mathlib.Decide.{decLt}
 use native.Mathlib.Nat.{add-suc}
 use native.Mathlib.Numerals.{add-one}
@@ -13,16 +14,18 @@ use lib.Dec.{ltb, eqb, eqb·suc-zero}
 use lib.IntN.{ℤ, pos, natAbs}
 use lib.ListN.{length, getD, take, drop, drop-of-length-le}
 use lib.Seq.{drop-cons}
+use Rattle.general.specs.Search.{firstPlace, place-none, none-placed}
 use Rattle.literal.specs.Literal.{maxClauses, maxLiterals}
-use Rattle.receipt.specs.Receipt.{refusal}
+use Rattle.receipt.specs.Receipt.{unknownVariable, refusal}
 use Rattle.receipt.specs.declared.Adding.the-variants.{Added}
 use Rattle.receipt.specs.declared.Fault.{Fault}
-use Rattle.receipt.specs.declared.Fault.the-variants.{TooManyClauses, TooManyLiterals, UnknownVariable, UsedLengthWrong, TableShort}
+use Rattle.receipt.specs.declared.Fault.the-variants.{TooManyClauses, TooManyLiterals, UsedLengthWrong, TableShort}
 use Rattle.receipt.specs.declared.Checked.{Checked}
 use Rattle.receipt.specs.declared.Checked.the-variants.{Passed, Refused}
 use Rattle.theory.specs.Table.{zeros, nonzeros, refused, check}
-use Rattle.theory.specs.Calls.{AddCall, addRefused, unknownIn, added, addKnown, addChecked, addCall}
+use Rattle.theory.specs.Calls.{AddCall, addRefused, isWrong, listUnknown, unknownIn, added, addKnown, addChecked, addCall}
 use Rattle.theory.proofs.Tables.{past, known-variable, accepted-exactly}
+use Rattle.table.specs.Tally.{clauseAfter}
 use Rattle.add.specs.Addable.{Addable}
 use Rattle.add.specs.Add.{known, firstRefusal, atMost, checkAdded, called}
 
@@ -34,19 +37,19 @@ wrong-known n (suc k) = elim (decLt n (suc k)) [
   | no h ↦ simp (le-ltb n (suc k) (omega arith), le-leb (suc k) n (omega arith), eqb·suc-zero, lt-ltb 0 (suc k) (omega arith))
 ]
 
--- u is the place of the list's first element
-module _ (u n : ℕ) (g : List ℤ) (i : ℕ) where
-  pub unknown-end : length g ≤ i → unknownIn (u + i) n (drop i g) ≡ Passed
-  unfolding unknownIn
+-- u is the place of the list's first element, and k the number that it would have as a group
+module _ (u k n : ℕ) (g : List ℤ) (i : ℕ) where
+  pub unknown-end : length g ≤ i → unknownIn (u + i) k n (drop i g) ≡ Passed
+  unfolding unknownIn firstPlace
   unknown-end h = rw (drop-of-length-le g h)
 
   module _ (h : i < length g) where
-    pub unknown-here : known n (natAbs (getD g i (pos 0))) ≡ false → unknownIn (u + i) n (drop i g) ≡ refused UnknownVariable (u + i)
-    unfolding unknownIn
+    pub unknown-here : known n (natAbs (getD g i (pos 0))) ≡ false → unknownIn (u + i) k n (drop i g) ≡ refused (unknownVariable k) (u + i)
+    unfolding unknownIn firstPlace
     unknown-here e = rw (drop-cons g i (pos 0) h, wrong-known n (natAbs (getD g i (pos 0))), e)
 
-    pub unknown-next : known n (natAbs (getD g i (pos 0))) ≡ true → unknownIn (u + (i + 1)) n (drop (i + 1) g) ≡ unknownIn (u + i) n (drop i g)
-    unfolding unknownIn
+    pub unknown-next : known n (natAbs (getD g i (pos 0))) ≡ true → unknownIn (u + (i + 1)) k n (drop (i + 1) g) ≡ unknownIn (u + i) k n (drop i g)
+    unfolding unknownIn firstPlace
     unknown-next e = rw (add-one i, add-suc u i, drop-cons g i (pos 0) h, wrong-known n (natAbs (getD g i (pos 0))), e)
 
 -- a call, unless a check refuses it: then the buffer stays as it was
@@ -77,7 +80,16 @@ module _ (b : List ℤ) where
   -- the order of the definition is that of the checks
   pub call-checked : (u n : ℕ) (g : List ℤ) → addCall u n g b ≡ unlessRefused b (checkAdded u n g b) (called (Added (u + length g + 1)) (added u g b))
   unfolding addCall checkAdded
-  call-checked u n g = simp (first-then, limit-then) (rw (checked-then (check n (take u b)) u n g, known-then (unknownIn u n g) u g))
+  call-checked u n g = simp (first-then, limit-then) (rw (checked-then (check n (take u b)) u n g, known-then (unknownIn u (zeros (take u b) + 1) n g) u g))
+
+-- where the list isn't refused for the number of clauses, that number is its own
+pub list-numbered : (u z n : ℕ) (g : List ℤ) (c d : Checked) →
+    let limits = firstRefusal (atMost (z + 1) maxClauses TooManyClauses) c in
+    firstRefusal limits (firstRefusal (unknownIn u (clauseAfter z .0) n g) d) ≡ firstRefusal limits (firstRefusal (unknownIn u (z + 1) n g) d)
+list-numbered u z n g c d = elim (decLt z maxClauses) [
+  | yes h ↦ let k : min z maxClauses ≡ z = omega arith in rw k
+  | no h ↦ rw (lt-ltb maxClauses (z + 1) (omega arith))
+]
 
 -- all checks pass exactly when the list may be added ----------------------------------------------------------------
 
@@ -88,19 +100,17 @@ first-passed Passed d = (λ e. (refl, e), λ e. e .1)
 most-passed : (k m : ℕ) (why : Fault) → (atMost k m why ≡ Passed) ↔ (k ≤ m)
 most-passed k m why = (λ e. ltb-false m k (past (ltb m k) _ _ e .0), λ h. rw (le-ltb m k h))
 
-list-passed : (i n : ℕ) (g : List ℤ) → unknownIn i n g ≡ Passed → (e : ℤ) → List·Memᴰ e g → (0 < natAbs e) × (natAbs e ≤ n)
-unfolding unknownIn
-list-passed i n [] h e m = absurd (List·Memᴰ·not-nil m)
-list-passed i n (x ∷ g) h e m =
-    let a = past (eqb (natAbs x) 0 || ltb n (natAbs x)) _ _ h in
-    ⊎-elim (λ (q : e ≡ x). rw q (known-variable n (natAbs x) (a .0))) (list-passed (suc i) n g (a .1) e) (List·Memᴰ·cases-cons m)
+list-none : (k : ℕ) (o : Option ℕ) → listUnknown k o ≡ Passed → o ≡ none
+list-none k none e = refl
+list-none k (some i) e = absurd (let z : _≡_ {A = ℕ} 0 1 = cc in omega arith)
 
-passed-list : (i n : ℕ) (g : List ℤ) → ((e : ℤ) → List·Memᴰ e g → (0 < natAbs e) × (natAbs e ≤ n)) → unknownIn i n g ≡ Passed
+list-passed : (u k n : ℕ) (g : List ℤ) → unknownIn u k n g ≡ Passed → (e : ℤ) → List·Memᴰ e g → (0 < natAbs e) × (natAbs e ≤ n)
 unfolding unknownIn
-passed-list i n [] h = refl
-passed-list i n (x ∷ g) h =
-    let k = h x (List·Memᴰ·head refl) in
-    rw (ne-eqb (natAbs x) 0 (λ q. omega (arith, k .0)), le-ltb n (natAbs x) (k .1)) (passed-list (suc i) n g (λ e m. h e (List·Memᴰ·tail m)))
+list-passed u k n g h e m = known-variable n (natAbs e) (place-none (isWrong n) u g (list-none k _ h) e m)
+
+passed-list : (u k n : ℕ) (g : List ℤ) → ((e : ℤ) → List·Memᴰ e g → (0 < natAbs e) × (natAbs e ≤ n)) → unknownIn u k n g ≡ Passed
+unfolding unknownIn
+passed-list u k n g h = ap (listUnknown k) (none-placed (isWrong n) u g (λ e m. let o = h e m in rw (ne-eqb (natAbs e) 0 (λ q. omega (arith, o .0)), le-ltb n (natAbs e) (o .1))))
 
 module _ (u n : ℕ) (g b : List ℤ) where
   abbrev t : List ℤ
@@ -120,13 +130,13 @@ module _ (u n : ℕ) (g b : List ℤ) where
         let y = first-passed (check n t) _ .0 (x .1) in
         let z = first-passed (firstRefusal clauses-check literals-check) _ .0 (y .1) in
         let l = first-passed clauses-check literals-check .0 (z .0) in
-        let w = first-passed (unknownIn u n g) _ .0 (z .1) in
+        let w = first-passed (unknownIn u (zeros t + 1) n g) _ .0 (z .1) in
         record {
           used = most-passed u (length b) UsedLengthWrong .0 (x .0);
           within = accepted-exactly n t .0 (y .0);
           clauses = most-passed _ _ TooManyClauses .0 (l .0);
           literals = most-passed _ _ TooManyLiterals .0 (l .1);
-          known = list-passed u n g (w .0);
+          known = list-passed u (zeros t + 1) n g (w .0);
           room = most-passed _ _ TableShort .0 (w .1);
         },
     λ a. rw (
@@ -134,7 +144,7 @@ module _ (u n : ℕ) (g b : List ℤ) where
       accepted-exactly n t .1 (a .within),
       most-passed (zeros t + 1) maxClauses TooManyClauses .1 (a .clauses),
       most-passed (nonzeros t + length g) maxLiterals TooManyLiterals .1 (a .literals),
-      passed-list u n g (a .known),
+      passed-list u (zeros t + 1) n g (a .known),
       most-passed (u + length g + 1) (length b) TableShort .1 (a .room),
     ),
   )

@@ -33,7 +33,7 @@ checkAdded u n g b =
     firstRefusal (atMost u (length b) UsedLengthWrong)
     (firstRefusal (check n (take u b))
     (firstRefusal (firstRefusal (atMost (zeros (take u b) + 1) maxClauses TooManyClauses) (atMost (nonzeros (take u b) + length g) maxLiterals TooManyLiterals))
-    (firstRefusal (unknownIn u n g) (atMost (u + length g + 1) (length b) TableShort))))
+    (firstRefusal (unknownIn u (zeros (take u b) + 1) n g) (atMost (u + length g + 1) (length b) TableShort))))
 
 abbrev pub called : Adding → List ℤ → AddCall
 called r b = record { answer = r; buffer = b }

@@ -4,6 +4,7 @@ ghost use Prim.Native.Nat.{_+_, _^_, _<_};
 ghost use lib.ListN.{length};
 ghost use Rattle.theory.specs.Calls.{unknownIn, added, addCall};
 ghost use Rattle.add.specs.Add.{known, firstRefusal, atMost, checkAdded, called};
+use literal::ClauseNumber;
 use literal::Literal;
 use receipt::Adding;
 use receipt::Checked;
@@ -16,14 +17,14 @@ fn known(n: usize, size: u16) -> bool
     0 < size && size as usize <= n
 }
 
-// The first element of the list that isn't known; the list's own first element is at place `at`.
-fn unknown_in(at: usize, n: usize, group: &[i16]) -> Checked
+// The first element of the list that isn't known; the list's own first element is at place `at`, and `clause` is the number that it would have as a group.
+fn unknown_in(at: usize, clause: ClauseNumber, n: usize, group: &[i16]) -> Checked
     requires { ⌜ at + length (now group) < 2 ^ 64 ⌝ }
-    ensures { λ r. ⌜ r ≡ unknownIn at n (now (group .entry)) ⌝ }
+    ensures { λ r. ⌜ r ≡ unknownIn at (clause .0) n (now (group .entry)) ⌝ }
 {
     for i in 0..group.len() {
         if !known(n, literal::size_at(group, i)) {
-            return table::refused(Fault::UnknownVariable, at + i);
+            return table::refused(Fault::UnknownVariable(clause), at + i);
         }
     }
     Checked::Passed
@@ -71,7 +72,7 @@ fn check_added(buffer: &[i16], used: usize, n: usize, group: &[i16]) -> Checked
         Literal::MAX_LITERALS,
         Fault::TooManyLiterals,
     );
-    let unknown = unknown_in(used, n, group);
+    let unknown = unknown_in(used, table::clause_after(tally.clauses), n, group);
     let room = at_most(used + count + 1, buffer.len(), Fault::TableShort);
     let limits = first_refusal(clauses, literals);
     let list = first_refusal(unknown, room);

@@ -4,6 +4,9 @@ use mathlib.Core.Bool.{Bool, true, false, _||_, cond}
 use mathlib.Core.Logic.{_⊎_, inl, inr, ⊎-elim}
 use mathlib.Core.Option.{Option, none, some}
 use mathlib.Core.List.{List, [], _∷_, List·Memᴰ, List·Memᴰ·head, List·Memᴰ·tail, List·Memᴰ·not-nil, List·Memᴰ·cases-cons}
+use Prim.Native.Nat.{ℕ, zero, suc, _+_, _<_}
+use native.Mathlib.Omega.{arith}
+use lib.ListN.{length, getD}
 use Rattle.general.specs.Booleans.{true-not-false}
 
 module _ {A : Type 0} (test : A → Bool) where
@@ -23,6 +26,49 @@ module _ {A : Type 0} (test : A → Bool) where
   pub find-later : {l m : List A} {x : A} → l ≡ x ∷ m → test x ≡ false → find l ≡ find m
   unfolding find
   find-later e h = rw (e, h)
+
+  -- the place of the first element that passes; the list's own first element has place i
+  unfoldable pub firstPlace : ℕ → List A → Option ℕ
+  firstPlace i [] = none
+  firstPlace i (x ∷ l) = cond (test x) (some i) (firstPlace (suc i) l)
+
+  pub record First (l : List A) (i : ℕ) : Type 0 where
+    pub inside : i < length l
+    pub here : (d : A) → test (getD l i d) ≡ true
+    pub earlier : (j : ℕ) → j < i → (d : A) → test (getD l j d) ≡ false
+
+  first-later : (x : A) (l : List A) (i : ℕ) → test x ≡ false → First l i → First (x ∷ l) (suc i)
+  first-later x l i h w = record { inside = omega (arith, w .inside); here = w .here; earlier = before }
+    where
+      before : (j : ℕ) → j < suc i → (d : A) → test (getD (x ∷ l) j d) ≡ false
+      before zero k d = h
+      before (suc j) k d = w .earlier j (omega arith) d
+
+  -- what the place says: none passes, or the element there is the first
+  abbrev Placed : ℕ → List A → Option ℕ → Type 0
+  Placed i l none = (y : A) → List·Memᴰ y l → test y ≡ false
+  Placed i l (some p) = (j : ℕ) × (p ≡ i + j) × First l j
+
+  placed : (i : ℕ) (l : List A) → Placed i l (firstPlace i l)
+  unfolding firstPlace
+  placed i [] = λ y m. absurd (List·Memᴰ·not-nil m)
+  placed i (x ∷ l) = go (test x) refl (firstPlace (suc i) l) (placed (suc i) l)
+    where
+      go : (b : Bool) → test x ≡ b → (o : Option ℕ) → Placed (suc i) l o → Placed i (x ∷ l) (cond b (some i) o)
+      go true e o w = (0, omega arith, record { inside = omega arith; here = λ d. e; earlier = λ j k. absurd (omega arith) })
+      go false e none w = λ y m. ⊎-elim (λ q. ap test q ∙ e) (w y) (List·Memᴰ·cases-cons m)
+      go false e (some p) w = (suc (w .0), omega (arith, w .1), first-later x l (w .0) e (w .2))
+
+  pub place-none : (i : ℕ) (l : List A) → firstPlace i l ≡ none → (y : A) → List·Memᴰ y l → test y ≡ false
+  place-none i l e = rw e at (placed i l)
+
+  pub place-some : (i : ℕ) (l : List A) (p : ℕ) → firstPlace i l ≡ some p → (j : ℕ) × (p ≡ i + j) × First l j
+  place-some i l p e = rw e at (placed i l)
+
+  pub none-placed : (i : ℕ) (l : List A) → ((y : A) → List·Memᴰ y l → test y ≡ false) → firstPlace i l ≡ none
+  unfolding firstPlace
+  none-placed i [] h = refl
+  none-placed i (x ∷ l) h = rw (h x (List·Memᴰ·head refl)) (none-placed (suc i) l (λ y m. h y (List·Memᴰ·tail m)))
 
   unfoldable pub any : List A → Bool
   any [] = false

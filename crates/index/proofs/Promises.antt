@@ -1,9 +1,9 @@
 -- What a call of Index promises, by its receipt and the heads after it. All of it follows from the equation that `index` ensures.
-use mathlib.Core.Path.{_≡_, refl, sym, subst, _∙_}
+use mathlib.Core.Path.{_≡_, refl, ap, sym, subst, _∙_}
 use mathlib.Core.Bool.{false}
 use mathlib.Core.Logic.{_↔_}
 use mathlib.Core.List.{List, []}
-use Prim.Native.Nat.{ℕ, suc, _+_, _<_, _≤_}
+use Prim.Native.Nat.{ℕ, suc, _+_, _-_, _<_, _≤_}
 use native.Mathlib.Omega.{arith}
 use borrow.Author.Tests.{ltb-true, ltb-false}
 use lib.Dec.{ltb}
@@ -24,8 +24,10 @@ use Rattle.theory.specs.Calls.{over, IndexCall, indexChecked, indexCall}
 use Rattle.theory.specs.Formula.{clauses}
 use Rattle.theory.specs.Heads.{head, headsOf, headAt, HeadOf}
 use Rattle.theory.specs.Table.{zeros, endsOpen, check, WithinLimits}
+use Rattle.theory.specs.Unknown.{Encloses, UnknownInTable, Names}
 use Rattle.theory.proofs.Heads.{clauses-zeros, heads-zeros, heads-hold, first-start, next-start, last-end, in-order}
 use Rattle.theory.proofs.Tables.{accepted-sizes, accepted-exactly, accepted-closed}
+use Rattle.theory.proofs.Unknown.{none-named, check-names}
 use Rattle.index.specs.Index.{called}
 
 abbrev pub numberOf : Indexing → ℕ
@@ -81,6 +83,15 @@ module _ {n : ℕ} {t : List ℤ} {hs : List Head} {r : Indexing} {hs′ : List 
       go (refused x h) q = refl
       go (indexed a h) q = absurd (let z : _≡_ {A = ℕ} 0 1 = cc in omega arith)
 
+  -- A2: 5 is for the first unknown placement, with its group; "for all other numbers it is 0"
+  pub index-names : Names (UnknownInTable n t) (indexingReceipt r)
+  unfolding indexCall
+  index-names = rw (ap (λ (s : IndexCall). s .answer) (c .is)) (check-names n t (λ k. indexingReceipt (indexChecked k t hs .answer)) (λ w. refl)
+      (cond-ind NamesAt _ _ (ltb (length hs) (zeros t)) (λ _. none-named 8 0 0 (λ e. omega arith)) (λ _. none-named 17 0 0 (λ e. omega arith))))
+    where
+      NamesAt : IndexCall → Type 0
+      NamesAt s = Names (UnknownInTable n t) (indexingReceipt (s .answer))
+
   -- "Elements not named are never changed.": the heads past the number of groups
   pub index-rest-kept : drop (zeros t) hs′ ≡ drop (zeros t) hs
   index-rest-kept = go (way c)
@@ -121,3 +132,14 @@ module _ {n : ℕ} {t : List ℤ} {hs : List Head} {r : Indexing} {hs′ : List 
     -- heads are in order
     pub index-order : (i j : ℕ) → i < j → j < zeros t → headAt hs′ i .start < headAt hs′ j .start
     index-order i j h l = rw (stored i (omega arith), stored j l) (in-order t (clauses t) 0 i j h (rw (clauses-zeros t) l))
+
+    -- A2: the group that 5 names by the heads stored: Index accepts with a larger n the table that was refused with 5, if none of its entries is of a placement above 256
+    pub index-encloses : (k i : ℕ) → Encloses t k i ↔ ((0 < k) × (k ≤ zeros t) × (headAt hs′ (k - 1) .start ≤ i) × (i < headAt hs′ (k - 1) .start + headAt hs′ (k - 1) .entries))
+    index-encloses k i = (
+      λ a.
+          let e = stored (k - 1) (omega (arith, a .from-one, a .is-clause, heads-zeros t)) in
+          (a .from-one, omega (arith, a .is-clause, heads-zeros t), rw e (a .starts), rw e (a .ends)),
+      λ a.
+          let e = stored (k - 1) (omega (arith, a .0, a .1)) in
+          record { from-one = a .0; is-clause = omega (arith, a .1, heads-zeros t); starts = rw e at (a .2); ends = rw e at (a .3) },
+    )

@@ -4,8 +4,13 @@ use Prim.Native.Nat.{ℕ, zero, suc, _+_, _*_, _/_, _%_}
 use mathlib.Core.Bool.{Bool, true, false, cond}
 use lib.Dec.{eqb, ltb}
 use lib.IntN.{ℤ, negsuc, pos}
+use Rattle.literal.specs.declared.ClauseNumber.{ClauseNumber}
 use Rattle.literal.specs.declared.Literal.{Literal}
 use Rattle.literal.specs.declared.Literal.the-variants.{Pos, Neg}
+
+-- a clause number (document 01's group number), counted from 1
+abbrev pub clauseNumber : ℕ → ClauseNumber
+clauseNumber k = record { 0 = k }
 
 abbrev pub TRUE : Literal
 TRUE = Pos 0

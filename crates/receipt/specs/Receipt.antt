@@ -1,5 +1,7 @@
 -- The numbers on the receipt (documents 01 and 02), each with its trade word.
 use Prim.Native.Nat.{ℕ}
+use Rattle.literal.specs.declared.ClauseNumber.{ClauseNumber}
+use Rattle.literal.specs.Literal.{clauseNumber}
 use Rattle.receipt.specs.declared.Fault.{Fault}
 use Rattle.receipt.specs.declared.Fault.the-variants.{TooManyVariables, TooManyClauses, TooManyLiterals, OpenClause, UnknownVariable, PlanShort, TrailShort, HeadsShort, ReceiptShort, UsedLengthWrong, StateShort, UnknownMark, CutStrip, OutOfTurn, TableShort, StripTooLong, StripShort}
 use Rattle.receipt.specs.declared.Outcome.{Outcome}
@@ -17,7 +19,7 @@ numberOf TooManyLiterals = 3
 -- open group
 numberOf OpenClause = 4
 -- unknown placement
-numberOf UnknownVariable = 5
+numberOf (UnknownVariable k) = 5
 -- plan short
 numberOf PlanShort = 6
 -- trail short
@@ -43,6 +45,26 @@ numberOf StripTooLong = 24
 -- strip room short
 numberOf StripShort = 25
 
+-- the group that a fault names: "for all other numbers it is 0" (document 02, A2)
+abbrev pub namedClause : Fault → ClauseNumber
+namedClause TooManyVariables = clauseNumber 0
+namedClause TooManyClauses = clauseNumber 0
+namedClause TooManyLiterals = clauseNumber 0
+namedClause OpenClause = clauseNumber 0
+namedClause (UnknownVariable k) = k
+namedClause PlanShort = clauseNumber 0
+namedClause TrailShort = clauseNumber 0
+namedClause HeadsShort = clauseNumber 0
+namedClause ReceiptShort = clauseNumber 0
+namedClause UsedLengthWrong = clauseNumber 0
+namedClause StateShort = clauseNumber 0
+namedClause UnknownMark = clauseNumber 0
+namedClause CutStrip = clauseNumber 0
+namedClause OutOfTurn = clauseNumber 0
+namedClause TableShort = clauseNumber 0
+namedClause StripTooLong = clauseNumber 0
+namedClause StripShort = clauseNumber 0
+
 -- how a search ends: laid out, no layout, stopped
 abbrev pub outcomeNumber : Outcome → ℕ
 outcomeNumber LaidOut = 0
@@ -53,13 +75,18 @@ outcomeNumber Stopped = 11
 abbrev pub done : ℕ
 done = 18
 
+-- an unknown placement in group k
+abbrev pub unknownVariable : ℕ → Fault
+unknownVariable k = UnknownVariable (clauseNumber k)
+
 -- the one way to make a refusal
 abbrev pub refusal : Fault → ℕ → Refusal
 refusal why at = record { fault = why; place = at }
 
+-- a receipt that names no group
 abbrev pub receipt : ℕ → ℕ → ℕ → Receipt
-receipt m p k = record { number = m; place = p; count = k }
+receipt m p k = record { number = m; place = p; count = k; clause = clauseNumber 0 }
 
--- a refusal has its fault's number and its place
+-- a refusal has its fault's number, its place, and the group that the fault names
 abbrev pub refusedReceipt : Refusal → Receipt
-refusedReceipt r = receipt (numberOf (r .fault)) (r .place) 0
+refusedReceipt r = record { number = numberOf (r .fault); place = r .place; count = 0; clause = namedClause (r .fault) }

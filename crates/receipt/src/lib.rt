@@ -1,15 +1,17 @@
 // What an operation answers, by cases, and what each answer puts on the receipt.
 ghost use mathlib.Core.Path.{_≡_};
-ghost use Rattle.receipt.specs.Receipt.{numberOf, outcomeNumber, refusal, refusedReceipt};
+ghost use Rattle.receipt.specs.Receipt.{numberOf, namedClause, outcomeNumber, refusal, receipt, refusedReceipt};
 ghost use Rattle.receipt.specs.Answers.{settlingReceipt, searchingReceipt, indexingReceipt, addingReceipt, addedLength, readingReceipt, readVariables, readLength, savingReceipt};
+use literal::ClauseNumber;
 
 // Why a call is refused: the rows of document 01's table of numbers that refuse, in its order, then those of document 02.
+// An unknown variable comes with the number of its group.
 pub enum Fault {
     TooManyVariables,
     TooManyClauses,
     TooManyLiterals,
     OpenClause,
-    UnknownVariable,
+    UnknownVariable(ClauseNumber),
     PlanShort,
     TrailShort,
     HeadsShort,
@@ -35,7 +37,7 @@ impl Fault {
             Fault::TooManyClauses => 2,
             Fault::TooManyLiterals => 3,
             Fault::OpenClause => 4,
-            Fault::UnknownVariable => 5,
+            Fault::UnknownVariable(_) => 5,
             Fault::PlanShort => 6,
             Fault::TrailShort => 7,
             Fault::HeadsShort => 8,
@@ -48,6 +50,18 @@ impl Fault {
             Fault::TableShort => 23,
             Fault::StripTooLong => 24,
             Fault::StripShort => 25,
+        }
+    }
+
+    // The group that it names: "for all other numbers it is 0".
+    pub fn clause(self) -> ClauseNumber
+        ensures { λ r. ⌜ r ≡ namedClause self ⌝ }
+    {
+        let why = self;
+        if let Fault::UnknownVariable(clause) = why {
+            clause
+        } else {
+            ClauseNumber(0)
         }
     }
 }
@@ -63,6 +77,19 @@ pub struct Receipt {
     pub number: u32,
     pub place: usize,
     pub count: u32,
+    pub clause: ClauseNumber,
+}
+
+// What names no group.
+fn plain(number: u32, place: usize, count: u32) -> Receipt
+    ensures { λ r. ⌜ r ≡ receipt number place count ⌝ }
+{
+    Receipt {
+        number,
+        place,
+        count,
+        clause: ClauseNumber(0),
+    }
 }
 
 impl Refusal {
@@ -80,6 +107,7 @@ impl Refusal {
             number: fault.number(),
             place: self.place,
             count: 0,
+            clause: fault.clause(),
         }
     }
 }
@@ -110,17 +138,6 @@ impl Outcome {
     }
 }
 
-// A number with place and count 0.
-fn plain(number: u32) -> Receipt
-    ensures { λ r. ⌜ r ≡ record { number = number; place = 0; count = 0 } ⌝ }
-{
-    Receipt {
-        number,
-        place: 0,
-        count: 0,
-    }
-}
-
 pub enum Settling {
     Settled,
     NoLayout,
@@ -133,8 +150,8 @@ impl Settling {
     {
         let answer = self;
         match answer {
-            Settling::Settled => plain(13),
-            Settling::NoLayout => plain(10),
+            Settling::Settled => plain(13, 0, 0),
+            Settling::NoLayout => plain(10, 0, 0),
             Settling::Refused(refusal) => refusal.receipt(),
         }
     }
@@ -152,11 +169,7 @@ impl Searching {
     {
         let answer = self;
         match answer {
-            Searching::Ended { outcome, count } => Receipt {
-                number: outcome.number(),
-                place: 0,
-                count,
-            },
+            Searching::Ended { outcome, count } => plain(outcome.number(), 0, count),
             Searching::Refused(refusal) => refusal.receipt(),
         }
     }
@@ -173,7 +186,7 @@ impl Indexing {
     {
         let answer = self;
         match answer {
-            Indexing::Indexed => plain(17),
+            Indexing::Indexed => plain(17, 0, 0),
             Indexing::Refused(refusal) => refusal.receipt(),
         }
     }
@@ -197,7 +210,7 @@ impl Adding {
     {
         let answer = self;
         match answer {
-            Adding::Added(_) => plain(15),
+            Adding::Added(_) => plain(15, 0, 0),
             Adding::Refused(refusal) => refusal.receipt(),
         }
     }
@@ -228,7 +241,7 @@ impl Reading {
             Reading::Read {
                 variables: _,
                 used: _,
-            } => plain(16),
+            } => plain(16, 0, 0),
             Reading::Refused(refusal) => refusal.receipt(),
         }
     }
@@ -269,11 +282,7 @@ impl Saving {
     {
         let answer = self;
         match answer {
-            Saving::Saved(length) => Receipt {
-                number: DONE,
-                place: length,
-                count: 0,
-            },
+            Saving::Saved(length) => plain(DONE, length, 0),
             Saving::Refused(refusal) => refusal.receipt(),
         }
     }

@@ -1,4 +1,5 @@
 pub mod Lines
 pub mod Reports
 pub mod Input
+pub mod Promises
 pub mod Examples

@@ -26,8 +26,10 @@ use Rattle.theory.specs.Calls.{over, SaveCall, saveChecked, saveCall, readCall}
 use Rattle.theory.specs.Encoding.{savedStrip, savedLength, Unchaptered, Bytes}
 use Rattle.theory.specs.Strip.{Decoding, readStrip}
 use Rattle.theory.specs.Table.{zeros, nonzeros, check, Accepted, WithinLimits}
+use Rattle.theory.specs.Unknown.{UnknownInTable, Names}
 use Rattle.theory.proofs.Encodings.{saved-length, saved-short}
 use Rattle.theory.proofs.Tables.{accepted-sizes, accepted-exactly}
+use Rattle.theory.proofs.Unknown.{none-named, check-names}
 use Rattle.strip.specs.Decoding.{called as readCalled}
 use Rattle.strip.proofs.Accepted.{read-accepted}
 use Rattle.strip.proofs.Ends.{sized}
@@ -92,6 +94,15 @@ module _ {n : ℕ} {t : List ℤ} {s : List ℕ} {r : Saving} {s′ : List ℕ} 
   save-strip-short w h =
       let a : Accepted n t = accepted-exactly n t .1 w in
       ap (λ (k : SaveCall). k .answer) (c .is) ∙ rw (a, lt-ltb (length s) (length (savedStrip n t)) (omega (arith, saved-length n t a)))
+
+  -- A2: 5 is for the first unknown placement, with its group; "for all other numbers it is 0"
+  pub save-names : Names (UnknownInTable n t) (savingReceipt r)
+  unfolding saveCall
+  save-names = rw (ap (λ (k : SaveCall). k .answer) (c .is)) (check-names n t (λ k. savingReceipt (saveChecked k n t s .answer)) (λ w. refl)
+      (cond-ind NamesAt _ _ (ltb (length s) (length (savedStrip n t))) (λ _. none-named 25 0 0 (λ e. omega arith)) (λ _. none-named done _ 0 (λ e. omega arith))))
+    where
+      NamesAt : SaveCall → Type 0
+      NamesAt k = Names (UnknownInTable n t) (savingReceipt (k .answer))
 
   -- "On refusal the strip buffer is untouched"
   pub save-refused-unchanged : (w : Refusal) → r ≡ Refused w → s′ ≡ s

@@ -6,10 +6,11 @@ use mathlib.Core.List.{List, _∷_, _++_, map}
 use Prim.Native.Nat.{ℕ, _-_, _≤_, _<_, min}
 use native.Mathlib.Decide.{decLe, decLt}
 use native.Mathlib.Omega.{arith}
+use lib.Dec.{ltb}
 use lib.IntN.{ℤ, pos as posℤ}
 use lib.ListN.{length, take, drop, replicate}
 use lib.Seq.{take-at, drop-at}
-use Rattle.general.specs.Booleans.{bit}
+use Rattle.general.specs.Booleans.{bit, cond-ind}
 use Rattle.literal.specs.Literal.{entryOf}
 use Rattle.receipt.specs.declared.Checked.{Checked}
 use Rattle.receipt.specs.declared.Checked.the-variants.{Passed, Refused}
@@ -17,20 +18,23 @@ use Rattle.receipt.specs.declared.Outcome.{Outcome}
 use Rattle.receipt.specs.declared.Outcome.the-variants.{LaidOut, NoLayout, Stopped}
 use Rattle.receipt.specs.declared.Refusal.{Refusal}
 use Rattle.receipt.specs.declared.Searching.the-variants as searching
-use Rattle.receipt.specs.Receipt.{outcomeNumber}
+use Rattle.receipt.specs.Receipt.{unknownVariable, outcomeNumber}
 use Rattle.receipt.specs.Answers.{searchingReceipt}
-use Rattle.receipt.proofs.Numbers.{same-outcome}
+use Rattle.receipt.proofs.Numbers.{outcome-answers, same-outcome}
+use Rattle.receipt.proofs.Numbers as numbers
 use Rattle.theory.specs.Bound.{N}
-use Rattle.theory.specs.Calls.{SearchCall, searchedCall, searchRefused, searchCall}
+use Rattle.theory.specs.Calls.{SearchCall, searchedCall, searchRefused, searchChecked, searchCall}
 use Rattle.theory.specs.Formula.{Choice, clauses, Solution}
 use Rattle.theory.specs.Order.{_≼_, Least}
 use Rattle.theory.specs.Search.{treeOf, needs, search, planOf, trailOf}
 use Rattle.theory.specs.Table.{check, Accepted}
 use Rattle.theory.specs.Tree.{Found, Result}
+use Rattle.theory.specs.Unknown.{UnknownInTable, Names}
 use Rattle.theory.proofs.Budget.{limited-empty}
 use Rattle.theory.proofs.Demands as demands
 use Rattle.theory.proofs.Paths.{plan-long, trail-long}
 use Rattle.theory.proofs.Tables.{accepted-sizes, accepted-exactly}
+use Rattle.theory.proofs.Unknown.{none-named, check-names}
 use Rattle.search.specs.Call.{Acceptable, Call, NotRefused, Reports, countOf, Alike}
 use Rattle.search.proofs.Calling.{call-refused, call-plan-short, call-trail-short, call-accepted}
 
@@ -60,6 +64,15 @@ module _ (n : ℕ) (t : List ℤ) (b : ℕ) (plan : List ℕ) (trail : List ℤ)
         ]
       ]
 
+  -- past the check of the table no call is refused with 5
+  pub passed-names : {Where : ℕ → ℕ → Type 0} → Names Where (searchingReceipt (searchChecked Passed n t b plan trail .answer))
+  passed-names {Where} = cond-ind NamesAt _ _ (ltb (length plan) n) (λ _. none-named 6 0 0 (λ e. omega arith))
+      (λ _. cond-ind NamesAt _ _ (ltb (length trail) n) (λ _. none-named 7 0 0 (λ e. omega arith))
+      (λ _. none-named _ 0 _ (λ e. numbers.not-refused (unknownVariable 0) _ (outcome-answers (search n t b .outcome)) (sym e))))
+    where
+      NamesAt : SearchCall → Type 0
+      NamesAt c = Names Where (searchingReceipt (c .answer))
+
   module _ (s : SearchCall) (is : s ≡ searchCall n t b plan trail) where
     not-refused : Acceptable n t plan trail → NotRefused s
     not-refused h w e = let z : _≡_ {A = ℕ} 0 1 = cc (ap (λ (u : SearchCall). u .answer) (searched (record { acceptable = h; is = is }))) in omega arith
@@ -74,6 +87,11 @@ module _ (n : ℕ) (t : List ℤ) (b : ℕ) (plan : List ℕ) (trail : List ℤ)
         (λ r. let q = is ∙ sym (r .1) in (ap (λ (u : SearchCall). u .plan) q, ap (λ (u : SearchCall). u .trail) q))
         (λ h. absurd (not-refused h w e))
         fate
+
+    -- A2: 5 is for the first unknown placement, with its group; "for all other numbers it is 0"
+    pub search-names : Names (UnknownInTable n t) (searchingReceipt (s .answer))
+    unfolding searchCall
+    search-names = rw is (check-names n t (λ k. searchingReceipt (searchChecked k n t b plan trail .answer)) (λ w. refl) passed-names)
 
 -- accepted calls ---------------------------------------------------------------------------------------------------
 

@@ -1,5 +1,5 @@
 -- What a call of Settle promises, by its number on the receipt and the list after it. All of it follows from the equation that `settle` ensures.
-use mathlib.Core.Path.{_≡_, refl, sym, subst}
+use mathlib.Core.Path.{_≡_, refl, ap, sym, subst}
 use mathlib.Core.Logic.{_⊎_, inl, inr, _↔_}
 use mathlib.Core.List.{List}
 use Prim.Native.Nat.{ℕ, _≤_}
@@ -25,8 +25,10 @@ use Rattle.theory.specs.Propagation.{Settled, dead, rest, settle}
 use Rattle.theory.specs.SettledList.{stateIn, Remains}
 use Rattle.theory.specs.State.{State, initial}
 use Rattle.theory.specs.Table.{check, WithinLimits}
+use Rattle.theory.specs.Unknown.{UnknownInTable, Names}
 use Rattle.theory.proofs.SettledList.{list-read, dead-end-none, settled-well, settled-remains}
 use Rattle.theory.proofs.Tables.{accepted-sizes, accepted-exactly, accepted-within}
+use Rattle.theory.proofs.Unknown.{none-named, check-names}
 use Rattle.settle.specs.Settle.{called}
 
 abbrev pub numberOf : Settling → ℕ
@@ -96,6 +98,19 @@ module _ {n : ℕ} {t l : List ℤ} {r : Settling} {l′ : List ℤ} (c : Call n
       go (refused x h) q = refl
       go (dead-end x h e) q = absurd (let z : _≡_ {A = ℕ} 0 1 = cc in omega arith)
       go (settled x h u e) q = absurd (let z : _≡_ {A = ℕ} 0 1 = cc in omega arith)
+
+  -- A2: 5 is for the first unknown placement, with its group; "for all other numbers it is 0"
+  pub settle-names : Names (UnknownInTable n t) (settlingReceipt r)
+  unfolding settleCall
+  settle-names = rw (ap (λ (s : SettleCall). s .answer) (c .is)) (check-names n t (λ k. settlingReceipt (settleChecked k n t l .answer)) (λ w. refl)
+      (cond-ind NamesAt _ _ (ltb (length l) n) (λ _. none-named 14 0 0 (λ e. omega arith)) (λ _. ended (settle n (clauses t) initial))))
+    where
+      NamesAt : SettleCall → Type 0
+      NamesAt s = Names (UnknownInTable n t) (settlingReceipt (s .answer))
+
+      ended : (o : Settled) → NamesAt (settledCall n o l)
+      ended dead = none-named 10 0 0 (λ e. omega arith)
+      ended (rest u) = none-named 13 0 0 (λ e. omega arith)
 
   -- "Elements not named are never changed."
   pub settle-rest-kept : drop n l′ ≡ drop n l

@@ -1,6 +1,7 @@
 -- The table of a formula within the limits is accepted by the check of tables; so is the table of every strip that is read.
 use mathlib.Core.Path.{_≡_, refl, ap}
 use mathlib.Core.Bool.{Bool, false, not}
+use mathlib.Core.Option.{none}
 use mathlib.Core.List.{List, [], _∷_, _++_, map, List·Memᴰ, List·Memᴰ·head, List·Memᴰ·tail}
 use Prim.Native.Nat.{ℕ, zero, suc, _+_, _<_, _≤_}
 use native.Mathlib.Omega.{arith}
@@ -8,13 +9,13 @@ use borrow.Author.Tests.{ne-eqb, le-ltb}
 use lib.IntN.{ℤ, natAbs, pos}
 use lib.ListN.{length}
 use Rattle.general.specs.Booleans.{bit}
+use Rattle.general.specs.Search.{firstPlace}
 use Rattle.literal.specs.declared.Literal.{Literal}
 use Rattle.literal.specs.declared.Literal.the-variants.{Pos, Neg}
 use Rattle.literal.specs.Literal.{var, entryOf, maxVariables, maxClauses, maxLiterals}
-use Rattle.receipt.specs.declared.Checked.the-variants.{Passed}
 use Rattle.receipt.specs.declared.Reading.the-variants.{Read}
 use Rattle.theory.specs.Formula.{Clause, Formula}
-use Rattle.theory.specs.Table.{closes, zeros, nonzeros, endsOpen, unknownFrom, check, Accepted}
+use Rattle.theory.specs.Table.{closes, zeros, nonzeros, endsOpen, isUnknown, tableUnknown, check, Accepted}
 use Rattle.theory.specs.Strip.{nothingRead, readStrip}
 use Rattle.theory.specs.Encoding.{groups, tableOf, entries}
 use Rattle.theory.proofs.Tables.{InRange}
@@ -33,12 +34,12 @@ record Counted (n : ℕ) (b : Bool) (t : List ℤ) (c l : ℕ) : Type 0 where
   pub clauses : zeros t ≡ c
   pub literals : nonzeros t ≡ l
   pub closed : endsOpen b t ≡ false
-  pub known : (i : ℕ) → unknownFrom i n t ≡ Passed
+  pub known : (i : ℕ) → firstPlace (isUnknown n) i t ≡ none
 
 module _ (n : ℕ) where
   row : (t : List ℤ) (k j : ℕ) → Counted n false t k j → (b : Bool) (c : Clause) → ((l : Literal) → List·Memᴰ l c → (0 < var l) × (var l ≤ n)) →
       Counted n b (map entryOf c ++ (pos 0 ∷ t)) (suc k) (length c + j)
-  unfolding zeros nonzeros endsOpen unknownFrom
+  unfolding zeros nonzeros endsOpen firstPlace
   row t k j a b [] h = record {
     clauses = omega (arith, a .clauses);
     literals = omega (arith, a .literals);
@@ -57,7 +58,7 @@ module _ (n : ℕ) where
       }
 
   table : (f : Formula) → InRange n f → Counted n false (tableOf f) (length f) (entries f)
-  unfolding tableOf entries zeros nonzeros endsOpen unknownFrom
+  unfolding tableOf entries zeros nonzeros endsOpen firstPlace
   table [] h = record { clauses = refl; literals = refl; closed = refl; known = λ i. refl }
   table (c ∷ f) h = row (tableOf f) (length f) (entries f) (table f (λ d l m. h d l (List·Memᴰ·tail m))) false c (λ l. h c l (List·Memᴰ·head refl))
 
@@ -70,7 +71,7 @@ module _ (n : ℕ) where
         le-ltb maxClauses (zeros (tableOf f)) (omega (arith, a .clauses)),
         le-ltb maxLiterals (nonzeros (tableOf f)) (omega (arith, a .literals)),
         a .closed,
-      ) (a .known 0)
+      ) (ap (tableUnknown (tableOf f)) (a .known 0))
 
 -- every operation accepts the table that was read
 pub read-accepted : (s : List ℕ) (room n u : ℕ) → readStrip s room .reading ≡ Read n u → Accepted n (readStrip s room .table)

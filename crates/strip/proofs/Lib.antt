@@ -1,4 +1,6 @@
 pub mod Sound
+pub mod Behind
+pub mod Named
 pub mod Ends
 pub mod Encoded
 pub mod Reached

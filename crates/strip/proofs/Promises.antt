@@ -16,9 +16,11 @@ use Rattle.receipt.specs.Receipt.{numberOf, refusal}
 use Rattle.receipt.specs.Answers.{readingReceipt}
 use Rattle.theory.specs.Strip.{nothingRead, Decoding, maxStrip, readStrip}
 use Rattle.theory.specs.Encoding.{Item, groups, tableOf, StripWithin, Bytes}
+use Rattle.theory.specs.Unknown.{UnknownInStrip, Names}
 use Rattle.theory.specs.Calls.{over, ReadCall, readCall}
 use Rattle.strip.specs.Decoding.{called}
 use Rattle.strip.proofs.Ends.{Ended, answered, too-long}
+use Rattle.strip.proofs.Named.{strip-names}
 use Rattle.strip.proofs.Encoded.{left-reads}
 
 -- a strip within the limits, and the table it stands for
@@ -54,6 +56,10 @@ module _ (s : List ℕ) (t : List ℤ) (r : Reading) (t′ : List ℤ) (is : cal
   read-refused-unchanged f e =
       let a : Ended s (length t) 0 nothingRead [] (Refused f) (readStrip s (length t) .table) = rw (sym reading-is ∙ e) at (answered s (length t)) in
       table-is ∙ rw (a .0)
+
+  -- A2: 5 names the group that is open at its place; "for all other numbers it is 0"
+  pub read-names : Bytes s → Names (UnknownInStrip s) (readingReceipt r)
+  read-names b = rw reading-is (strip-names s b (length t))
 
   -- "24 first, place 0": over 16,384 bytes, and at no other time
   pub read-too-long : (readingReceipt r .number ≡ numberOf StripTooLong → maxStrip < length s) × (maxStrip < length s → r ≡ Refused (refusal StripTooLong 0))

@@ -9,6 +9,7 @@ ghost use Rattle.theory.specs.declared.Obeyed.the-variants.{Goes};
 ghost use Rattle.theory.specs.Strip.{progress, entered, obey, notRead, ending, readStrip};
 ghost use Rattle.theory.specs.Calls.{over, readCall};
 ghost use Rattle.strip.specs.Decoding.{decodingOf, called};
+use literal::ClauseNumber;
 use literal::Literal;
 use receipt::Fault;
 use receipt::Reading;
@@ -45,14 +46,14 @@ fn goes(turn: Turn, variables: u16, clauses: u16, literals: u16, stored: Stored)
     )
 }
 
-// An entry: its value, then the limit.
+// An entry: its value, then the limit. An unknown one is of the group that is open.
 fn entered(progress: Progress, literal: Literal) -> Obeyed
     requires { ⌜ progress .variables ≤ maxVariables ⌝ }
     ensures { λ r. ⌜ r ≡ entered progress literal ⌝ }
 {
     let p = literal.variable().0;
     if p == 0 || progress.variables < p {
-        return Obeyed::Refused(Fault::UnknownVariable);
+        return Obeyed::Refused(Fault::UnknownVariable(ClauseNumber(progress.clauses)));
     }
     if (progress.literals as usize) < Literal::MAX_LITERALS {
         goes(

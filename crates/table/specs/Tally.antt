@@ -1,11 +1,12 @@
 -- One pass over a table: what it keeps of the elements that it has passed, and document 01's refusals 1 to 5 read off it.
 use mathlib.Core.Bool.{false, not, cond}
 use mathlib.Core.List.{List, [], _∷_}
-use Prim.Native.Nat.{ℕ, _+_}
+use Prim.Native.Nat.{ℕ, _+_, min}
 use lib.Dec.{ltb, eqb}
 use lib.IntN.{ℤ, natAbs}
 use Rattle.general.specs.Booleans.{bit}
-use Rattle.literal.specs.Literal.{maxVariables, maxClauses, maxLiterals}
+use Rattle.literal.specs.declared.ClauseNumber.{ClauseNumber}
+use Rattle.literal.specs.Literal.{clauseNumber, maxVariables, maxClauses, maxLiterals}
 use Rattle.receipt.specs.declared.Fault.the-variants.{TooManyVariables, TooManyClauses, TooManyLiterals, OpenClause, UnknownVariable}
 use Rattle.receipt.specs.declared.Checked.{Checked}
 use Rattle.receipt.specs.declared.Checked.the-variants.{Passed}
@@ -21,14 +22,18 @@ empty = record { clauses = 0; literals = 0; unclosed = false; unknown = Nowhere 
 abbrev pub passed : Tally → ℕ
 passed s = s .clauses + s .literals
 
--- the first index found stays
+-- the first one found stays
 abbrev pub earlier : Unknown → Unknown → Unknown
 earlier Nowhere u = u
-earlier (At i) u = At i
+earlier (At i z) u = At i z
 
--- k is the size of the element at index i
-abbrev pub unknownAt : ℕ → ℕ → ℕ → Unknown
-unknownAt i n k = cond (ltb n k) (At i) Nowhere
+-- the number of the clause after z closed ones; past the limit a table is refused for its clauses, so there one number does for all
+abbrev pub clauseAfter : ℕ → ClauseNumber
+clauseAfter z = clauseNumber (min z maxClauses + 1)
+
+-- k is the size of the element at index i, after z closed clauses
+abbrev pub unknownAt : ℕ → ℕ → ℕ → ℕ → Unknown
+unknownAt i z n k = cond (ltb n k) (At i z) Nowhere
 
 -- one element more, of size k; one of size 0 closes a group
 unfoldable pub counted : ℕ → Tally → ℕ → Tally
@@ -37,7 +42,7 @@ counted n s k =
       clauses = s .clauses + bit (eqb k 0);
       literals = s .literals + bit (not (eqb k 0));
       unclosed = not (eqb k 0);
-      unknown = earlier (s .unknown) (unknownAt (passed s) n k);
+      unknown = earlier (s .unknown) (unknownAt (passed s) (s .clauses) n k);
     }
 
 unfoldable pub tallyFrom : ℕ → Tally → List ℤ → Tally
@@ -49,7 +54,7 @@ tallyOf n t = tallyFrom n empty t
 
 abbrev pub refusedAt : Unknown → Checked
 refusedAt Nowhere = Passed
-refusedAt (At i) = refused UnknownVariable i
+refusedAt (At i z) = refused (UnknownVariable (clauseAfter z)) i
 
 -- "Tables: 1, 2, 3, 4, 5"
 unfoldable pub verdict : ℕ → Tally → Checked

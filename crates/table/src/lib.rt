@@ -2,16 +2,17 @@
 ghost use mathlib.Core.Path.{_≡_};
 ghost use Prim.Native.Nat.{_+_, _^_, _<_};
 ghost use Rattle.theory.specs.Table.{check, refused};
-ghost use Rattle.table.specs.Tally.{passed, unknownAt, earlier, counted, tallyOf, verdict};
+ghost use Rattle.table.specs.Tally.{passed, clauseAfter, unknownAt, earlier, counted, tallyOf, verdict};
+use literal::ClauseNumber;
 use literal::Literal;
 use receipt::Checked;
 use receipt::Fault;
 use receipt::Refusal;
 
-// The index of the first entry whose size is above n.
+// The first entry whose size is above n: its index, and how many clauses were closed before it.
 pub enum Unknown {
     Nowhere,
-    At(usize),
+    At(usize, usize),
 }
 
 // What the pass keeps: closed clauses, literals, whether the last element was not 0, and the first unknown variable.
@@ -22,24 +23,36 @@ pub struct Tally {
     pub unknown: Unknown,
 }
 
-// Whether the element at index i, of this size, is of an unknown variable. The size of -32768 is 32768, so it is above every n that is allowed.
-fn unknown_at(i: usize, n: usize, size: u16) -> Unknown
-    ensures { λ r. ⌜ r ≡ unknownAt i n size ⌝ }
+// The number of the clause after so many closed ones. Past the limit a table is refused for its clauses, so there one number does for all.
+pub fn clause_after(closed: usize) -> ClauseNumber
+    ensures { λ r. ⌜ r ≡ clauseAfter closed ⌝ }
+{
+    if closed < Literal::MAX_CLAUSES {
+        ClauseNumber(closed as u16 + 1)
+    } else {
+        ClauseNumber(Literal::MAX_CLAUSES as u16 + 1)
+    }
+}
+
+// Whether the element at index i, of this size and after so many closed clauses, is of an unknown variable. The size of -32768 is 32768, so it is above every n
+// that is allowed.
+fn unknown_at(i: usize, closed: usize, n: usize, size: u16) -> Unknown
+    ensures { λ r. ⌜ r ≡ unknownAt i closed n size ⌝ }
 {
     if n < size as usize {
-        Unknown::At(i)
+        Unknown::At(i, closed)
     } else {
         Unknown::Nowhere
     }
 }
 
-// The first index found stays.
+// The first one found stays.
 fn earlier(first: Unknown, second: Unknown) -> Unknown
     ensures { λ r. ⌜ r ≡ earlier first second ⌝ }
 {
     match first {
         Unknown::Nowhere => second,
-        Unknown::At(_) => first,
+        Unknown::At(_, _) => first,
     }
 }
 
@@ -51,7 +64,7 @@ fn counted(n: usize, tally: Tally, size: u16) -> Tally
     let clauses = tally.clauses;
     let literals = tally.literals;
     let found = tally.unknown;
-    let unknown = earlier(found, unknown_at(clauses + literals, n, size));
+    let unknown = earlier(found, unknown_at(clauses + literals, clauses, n, size));
     if size == 0 {
         Tally {
             clauses: clauses + 1,
@@ -110,7 +123,7 @@ pub fn verdict(n: usize, tally: Tally) -> Checked
     let unknown = tally.unknown;
     match unknown {
         Unknown::Nowhere => Checked::Passed,
-        Unknown::At(place) => refused(Fault::UnknownVariable, place),
+        Unknown::At(place, closed) => refused(Fault::UnknownVariable(clause_after(closed)), place),
     }
 }
 

@@ -5,11 +5,14 @@ use Prim.Native.Nat.{ℕ, suc, _+_, _*_, _≤_, _<_, zero-le}
 use native.Mathlib.Nat.{mul-suc}
 use native.Mathlib.Numerals.{add-one}
 use native.Mathlib.Omega.{arith}
+use borrow.Author.Tests.{eq-eqb, ne-eqb}
 use lib.ListN.{length, take, getD}
 use lib.Seq.{take-suc, take-all}
 use Rattle.io.specs.Digits.{digits, Fewest}
+use Rattle.receipt.specs.declared.Fault.{Fault}
+use Rattle.receipt.specs.Receipt.{numberOf, namedClause}
 use Rattle.general.specs.Appending.{Appended}
-use Rattle.text.specs.Text.{codes, decimal, spaced, line}
+use Rattle.text.specs.Text.{codes, decimal, spaced, line, clauseWords}
 use Rattle.general.specs.Appending.{append-nothing, append-both}
 use Rattle.text.proofs.Digits.{digits-decimal}
 
@@ -42,6 +45,15 @@ words-appended a b f s = rw (spaced-append a b) (append-both f s)
 pub line-appended : {l₀ l₁ l₂ l₃ : List ℕ} {at p q r : ℕ} (w : List ℕ) (ws : List (List ℕ)) → Appended l₀ at w l₁ p → Appended l₁ p (spaced ws) l₂ q →
     Appended l₂ q (codes "\n") l₃ r → Appended l₀ at (line w ws) l₃ r
 line-appended w ws a b c = append-both a (append-both b c)
+
+-- the group of a refusal, where its number is 5
+module _ {l₀ l₁ : List ℕ} {at p : ℕ} (why : Fault) where
+  pub clause-appended : numberOf why ≡ 5 → Appended l₀ at (spaced (decimal (namedClause why .0) ∷ [])) l₁ p → Appended l₀ at (spaced (clauseWords why)) l₁ p
+  clause-appended e a = rw (eq-eqb (numberOf why) 5 e) a
+
+  pub no-clause : ¬ (numberOf why ≡ 5) → Appended l₀ at [] l₁ p → Appended l₀ at (spaced (clauseWords why)) l₁ p
+  unfolding spaced
+  no-clause e a = rw (ne-eqb (numberOf why) 5 e) a
 
 -- A loop that appends a word for each element of a list ---------------------------------------------------------
 

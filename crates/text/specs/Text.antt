@@ -1,13 +1,14 @@
 -- Text as bytes: words, numbers, lines of words, and the line of a refusal.
-use mathlib.Core.Bool.{true, false}
+use mathlib.Core.Bool.{true, false, cond}
 use mathlib.Core.List.{List, [], _∷_, _++_}
 use Prim.Native.Nat.{ℕ, zero, suc, _+_, _/_, _%_}
 use Prim.Native.Char.{code}
 use Prim.Native.String.{String, [] as empty, _∷_ as character}
-use lib.Dec.{ltb}
+use lib.Dec.{eqb, ltb}
 use lib.IntN.{ℤ, pos, negsuc}
+use Rattle.receipt.specs.declared.Fault.{Fault}
 use Rattle.receipt.specs.declared.Refusal.{Refusal}
-use Rattle.receipt.specs.Receipt.{numberOf}
+use Rattle.receipt.specs.Receipt.{numberOf, namedClause}
 
 -- the codes of a text's characters
 abbrev pub codes : String → List ℕ
@@ -43,6 +44,10 @@ spaced (w ∷ ws) = codes " " ++ (w ++ spaced ws)
 abbrev pub line : List ℕ → List (List ℕ) → List ℕ
 line w ws = w ++ (spaced ws ++ codes "\n")
 
+-- after the place: "The layout program's refused line for 5 ends with the group number." (document 02, A2)
+abbrev pub clauseWords : Fault → List (List ℕ)
+clauseWords why = cond (eqb (numberOf why) 5) (decimal (namedClause why .0) ∷ []) []
+
 -- a refusal: "one line, `refused`, number, place, with single spaces"
 abbrev pub refusedText : Refusal → List ℕ
-refusedText f = line (codes "refused") (decimal (numberOf (f .fault)) ∷ decimal (f .place) ∷ [])
+refusedText f = line (codes "refused") (decimal (numberOf (f .fault)) ∷ decimal (f .place) ∷ clauseWords (f .fault))

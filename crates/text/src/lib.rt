@@ -4,8 +4,12 @@ ghost use mathlib.Core.List.{[], _∷_, map};
 ghost use Prim.Native.Nat.{_+_, _*_, _≤_};
 ghost use lib.ListN.{length};
 ghost use Rattle.general.specs.Appending.{Appended};
-ghost use Rattle.text.specs.Text.{decimal, signed, spaced, refusedText};
+ghost use Rattle.text.specs.Text.{decimal, signed, spaced, clauseWords, refusedText};
+use receipt::Fault;
 use receipt::Refusal;
+
+// "The layout program's refused line for 5 ends with the group number."
+const NAMES_CLAUSE: u32 = 5;
 
 pub fn put_bytes(out: &mut [u8], at: usize, bytes: &[u8]) -> usize
     requires { ⌜ at + length (now bytes) ≤ length (now out) ⌝ }
@@ -84,9 +88,23 @@ pub fn put_entries(out: &mut [u8], at: usize, entries: &[i16]) -> usize
     next
 }
 
+// The group that a refusal names, after a space.
+fn put_clause(out: &mut [u8], at: usize, fault: Fault) -> usize
+    requires { ⌜ at + 21 ≤ length (now out) ⌝ }
+    ensures { λ r. ⌜ Appended (now (out .entry)) at (spaced (clauseWords fault)) (now (out .exit)) r ⌝ }
+    ensures { λ r. ⌜ r ≤ at + 21 ⌝ }
+{
+    let number = fault.number();
+    if number == NAMES_CLAUSE {
+        let clause = fault.clause();
+        return put_number(out, at, clause.0 as u64);
+    }
+    at
+}
+
 // The line of a refusal, at the front.
 pub fn put_refusal(out: &mut [u8], refusal: Refusal) -> usize
-    requires { ⌜ 50 ≤ length (now out) ⌝ }
+    requires { ⌜ 71 ≤ length (now out) ⌝ }
     ensures { λ r. ⌜ Appended (now (out .entry)) 0 (refusedText refusal) (now (out .exit)) r ⌝ }
 {
     let fault = refusal.fault;
@@ -95,5 +113,6 @@ pub fn put_refusal(out: &mut [u8], refusal: Refusal) -> usize
     let word = put_bytes(out, 0, b"refused");
     let first = put_number(out, word, number);
     let second = put_number(out, first, place);
-    put_bytes(out, second, b"\n")
+    let third = put_clause(out, second, fault);
+    put_bytes(out, third, b"\n")
 }

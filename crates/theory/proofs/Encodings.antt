@@ -2,21 +2,24 @@
 use mathlib.Core.Path.{_≡_, refl, ap, sym, _∙_}
 use mathlib.Core.Bool.{Bool, true, false}
 use mathlib.Core.List.{List, [], _∷_, _++_, map, List·Memᴰ, List·Memᴰ·head, List·Memᴰ·tail}
-use Prim.Native.Nat.{ℕ, zero, suc, _+_, _*_, _/_, _%_, _<_, _≤_}
+use Prim.Native.Nat.{ℕ, zero, suc, _+_, _-_, _*_, _/_, _%_, _<_, _≤_}
+use native.Mathlib.Nat.{add-zero, zero-add}
 use native.Mathlib.Omega.{arith}
 use lib.Dec.{eqb·suc-zero}
 use lib.IntN.{ℤ, negsuc, pos as posℤ}
-use lib.ListN.{length, getD, drop, length-append}
+use lib.ListN.{length, getD, drop, length-append, length-map}
 use Rattle.literal.specs.declared.Literal.{Literal}
 use Rattle.literal.specs.declared.Literal.the-variants.{Pos, Neg}
 use Rattle.literal.specs.Literal.{var, entryOf, maxVariables}
 use Rattle.theory.specs.declared.Mark.the-variants.{Placements, Opens, Taken, LeftOut, Closes, Ends}
 use Rattle.theory.specs.Formula.{Clause, Formula, clauses}
+use Rattle.theory.specs.Heads.{head, headsFrom, headsOf, headAt}
+use Rattle.theory.specs.Unknown.{Encloses}
 use Rattle.theory.specs.Strip.{byteOf, maxStrip}
 use Rattle.theory.specs.Table.{zeros, nonzeros, endsOpen, Accepted}
 use Rattle.theory.specs.Encoding.{Item, chapter, group, entryBytes, itemBytes, encode, groups, tableOf, entries, savedStrip, savedLength, maxSaved, StripWithin, Bytes}
 use Rattle.theory.proofs.Tables.{first-clause, accepted-closed, accepted-sizes, accepted-within}
-use Rattle.theory.proofs.Heads.{clauses-zeros}
+use Rattle.theory.proofs.Heads.{clauses-zeros, heads-zeros}
 
 -- tables and formulas -------------------------------------------------------------------------------------------------
 
@@ -48,7 +51,38 @@ clauses-table [] h = refl
 clauses-table (c ∷ f) h =
     row-clauses c (tableOf f) (λ l. h c l (List·Memᴰ·head refl)) ∙ ap (_∷_ c) (clauses-table f (λ d l m. h d l (List·Memᴰ·tail m)))
 
+-- the head of the last clause of a formula's table: it starts after the clauses before it
+last-head : (f : Formula) (s : ℕ) (c : Clause) → headAt (headsFrom s (f ++ (c ∷ []))) (length f) ≡ head (s + length (tableOf f)) (length c)
+unfolding headsFrom tableOf
+last-head [] s c = rw (add-zero s)
+last-head (d ∷ f) s c =
+    let k : s + length d + 1 + length (tableOf f) ≡ s + length (map entryOf d ++ (posℤ 0 ∷ tableOf f)) =
+    omega (arith, length-append (map entryOf d) (posℤ 0 ∷ tableOf f), length-map d entryOf) in
+    last-head f (s + length d + 1) c ∙ rw k
+
+-- so it encloses its last literal
+pub last-encloses : (f : Formula) (c : Clause) (l : Literal) →
+    let g = f ++ ((c ++ (l ∷ [])) ∷ []) in
+    ((d : Clause) (x : Literal) → List·Memᴰ d g → List·Memᴰ x d → 0 < var x) → Encloses (tableOf g) (length f + 1) (length (tableOf f) + length c)
+last-encloses f c l low =
+    let g = f ++ ((c ++ (l ∷ [])) ∷ []) in
+    let k : length f + 1 - 1 ≡ length f = omega arith in
+    let h : headAt (headsOf (tableOf g)) (length f + 1 - 1) ≡ head (length (tableOf f)) (length (c ++ (l ∷ []))) =
+    rw (k, clauses-table g low) (last-head f 0 (c ++ (l ∷ [])) ∙ rw (zero-add (length (tableOf f)))) in
+    record {
+      from-one = omega arith;
+      is-clause = omega (arith, heads-zeros (tableOf g), clauses-zeros (tableOf g), ap length (clauses-table g low), length-append f ((c ++ (l ∷ [])) ∷ []));
+      starts = rw h (omega arith);
+      ends = rw h (omega (arith, length-append c (l ∷ [])));
+    }
+
 -- strips and items ----------------------------------------------------------------------------------------------------
+
+pub groups-append : (l k : List Item) → groups (l ++ k) ≡ groups l ++ groups k
+unfolding groups
+groups-append [] k = refl
+groups-append (chapter b ∷ l) k = groups-append l k
+groups-append (group c ∷ l) k = ap (_∷_ c) (groups-append l k)
 
 pub groups-only : (f : Formula) → groups (map group f) ≡ f
 unfolding groups

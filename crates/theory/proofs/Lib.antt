@@ -34,4 +34,5 @@ pub mod Paths
 pub mod Filings
 pub mod SettledList
 pub mod Heads
+pub mod Unknown
 pub mod Encodings

@@ -3,6 +3,7 @@ use mathlib.Core.Path.{_≡_, refl, ap, sym, _∙_}
 use mathlib.Core.Bool.{Bool, true, false, not, _||_, cond}
 use mathlib.Core.Logic.{_⊎_, ⊎-elim, _↔_, _≢_}
 use mathlib.Core.List.{List, [], _∷_, _++_, map, List·Memᴰ, List·Memᴰ·head, List·Memᴰ·tail, List·Memᴰ·not-nil, List·Memᴰ·cases-cons}
+use mathlib.Core.Option.{Option, none, some}
 use Prim.Native.Nat.{ℕ, zero, suc, _+_, _<_, _≤_}
 use native.Mathlib.Omega.{arith}
 use lib.Dec.{ltb, eqb, eqb·suc-zero}
@@ -10,6 +11,7 @@ use lib.IntN.{ℤ, negsuc, natAbs, pos as posℤ}
 use lib.ListN.{length}
 use borrow.Author.Tests.{ltb-false, le-ltb, eqb-true, eqb-false, ne-eqb, not-false}
 use Rattle.general.specs.Booleans.{true-not-false, bit-not}
+use Rattle.general.specs.Search.{firstPlace, place-none, none-placed}
 use Rattle.literal.specs.declared.Literal.{Literal}
 use Rattle.literal.specs.declared.Literal.the-variants.{Pos, Neg}
 use Rattle.literal.specs.Literal.{var, literalOf, maxVariables, maxClauses, maxLiterals}
@@ -17,7 +19,7 @@ use Rattle.receipt.specs.declared.Checked.{Checked}
 use Rattle.receipt.specs.declared.Refusal.{Refusal}
 use Rattle.receipt.specs.declared.Checked.the-variants.{Passed, Refused}
 use Rattle.theory.specs.Formula.{Clause, Formula, clauses, push, Within}
-use Rattle.theory.specs.Table.{closes, zeros, nonzeros, endsOpen, unknownFrom, check, Accepted, WithinLimits}
+use Rattle.theory.specs.Table.{closes, zeros, nonzeros, endsOpen, isUnknown, tableUnknown, check, Accepted, WithinLimits}
 
 -- a check that passes passed its first test, and the rest
 pub past : (b : Bool) (r : Refusal) (s : Checked) → cond b (Refused r) s ≡ Passed → (b ≡ false) × (s ≡ Passed)
@@ -65,17 +67,15 @@ ends-closed c (x ∷ t) h k =
 
 -- no entry's size is above n ------------------------------------------------------------------------------------------
 
-unknown-bound : (i n : ℕ) (t : List ℤ) → unknownFrom i n t ≡ Passed → (e : ℤ) → List·Memᴰ e t → natAbs e ≤ n
-unfolding unknownFrom
-unknown-bound i n [] h e m = absurd (List·Memᴰ·not-nil m)
-unknown-bound i n (x ∷ t) h e m =
-    let a = past (ltb n (natAbs x)) _ _ h in
-    ⊎-elim (λ (q : e ≡ x). rw q (ltb-false n (natAbs x) (a .0))) (unknown-bound (suc i) n t (a .1) e) (List·Memᴰ·cases-cons m)
+unknown-none : (t : List ℤ) (o : Option ℕ) → tableUnknown t o ≡ Passed → o ≡ none
+unknown-none t none e = refl
+unknown-none t (some i) e = absurd (let z : _≡_ {A = ℕ} 0 1 = cc in omega arith)
 
-bound-known : (i n : ℕ) (t : List ℤ) → ((e : ℤ) → List·Memᴰ e t → natAbs e ≤ n) → unknownFrom i n t ≡ Passed
-unfolding unknownFrom
-bound-known i n [] h = refl
-bound-known i n (e ∷ t) h = rw (le-ltb n (natAbs e) (h e (List·Memᴰ·head refl))) (bound-known (suc i) n t (λ x m. h x (List·Memᴰ·tail m)))
+unknown-bound : (n : ℕ) (t : List ℤ) → tableUnknown t (firstPlace (isUnknown n) 0 t) ≡ Passed → (e : ℤ) → List·Memᴰ e t → natAbs e ≤ n
+unknown-bound n t h e m = ltb-false n (natAbs e) (place-none (isUnknown n) 0 t (unknown-none t _ h) e m)
+
+bound-known : (n : ℕ) (t : List ℤ) → ((e : ℤ) → List·Memᴰ e t → natAbs e ≤ n) → tableUnknown t (firstPlace (isUnknown n) 0 t) ≡ Passed
+bound-known n t h = ap (tableUnknown t) (none-placed (isUnknown n) 0 t (λ e m. le-ltb n (natAbs e) (h e m)))
 
 -- the test of an operand of a strip and of an added list: a variable from 1 to n
 pub known-variable : (n p : ℕ) → (eqb p 0 || ltb n p) ≡ false → (0 < p) × (p ≤ n)
@@ -102,7 +102,7 @@ module _ (n : ℕ) (t : List ℤ) where
           clauses = ltb-false maxClauses (zeros t) (b .0);
           literals = ltb-false maxLiterals (nonzeros t) (c .0);
           ends = closed-ends t (d .0);
-          known = unknown-bound 0 n t (d .1);
+          known = unknown-bound n t (d .1);
         },
       )
 
@@ -122,7 +122,7 @@ module _ (n : ℕ) (t : List ℤ) where
       le-ltb maxClauses (zeros t) (w .clauses),
       le-ltb maxLiterals (nonzeros t) (w .literals),
       ends-closed false t (λ q. refl) (w .ends),
-    ) (bound-known 0 n t (w .known)),
+    ) (bound-known n t (w .known)),
   )
 
 -- literals ---------------------------------------------------------------------------------------------------------

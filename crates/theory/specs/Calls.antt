@@ -1,15 +1,17 @@
 -- What the operations answer, and what they leave in the lists lent to them.
-use mathlib.Core.Bool.{_||_, cond}
+use mathlib.Core.Bool.{Bool, _||_, cond}
 use mathlib.Core.List.{List, [], _∷_, _++_}
+use mathlib.Core.Option.{Option, none, some}
 use Prim.Native.Nat.{ℕ, zero, suc, _+_, _/_, _%_}
-use lib.Dec.{eqb, ltb}
-use lib.IntN.{ℤ, negsuc, natAbs, pos as posℤ}
+use lib.Dec.{ltb}
+use lib.IntN.{ℤ, negsuc, pos as posℤ}
 use lib.ListN.{length, replicate, take, drop}
 use Rattle.general.specs.Lists.{upTo}
+use Rattle.general.specs.Search.{firstPlace}
 use Rattle.literal.specs.declared.Literal.{Literal}
 use Rattle.literal.specs.declared.Literal.the-variants.{Pos, Neg}
 use Rattle.literal.specs.Literal.{maxVariables, maxClauses, maxLiterals, maxTable}
-use Rattle.receipt.specs.declared.Fault.the-variants.{TooManyClauses, TooManyLiterals, UnknownVariable, PlanShort, TrailShort, HeadsShort, ReceiptShort, UsedLengthWrong, StateShort, TableShort, StripShort}
+use Rattle.receipt.specs.declared.Fault.the-variants.{TooManyClauses, TooManyLiterals, PlanShort, TrailShort, HeadsShort, ReceiptShort, UsedLengthWrong, StateShort, TableShort, StripShort}
 use Rattle.receipt.specs.declared.Refusal.{Refusal}
 use Rattle.receipt.specs.declared.Checked.{Checked}
 use Rattle.receipt.specs.declared.Checked.the-variants.{Passed, Refused}
@@ -27,13 +29,13 @@ use Rattle.receipt.specs.declared.Reading.the-variants as reading
 use Rattle.receipt.specs.declared.Saving.{Saving}
 use Rattle.receipt.specs.declared.Saving.the-variants as saving
 use Rattle.receipt.specs.declared.Receipt.{Receipt}
-use Rattle.receipt.specs.Receipt.{numberOf, refusal}
+use Rattle.receipt.specs.Receipt.{numberOf, unknownVariable, refusal}
 use Rattle.receipt.specs.Answers.{searchingReceipt, readVariables}
 use Rattle.theory.specs.Formula.{Choice, clauses}
 use Rattle.theory.specs.Heads.{headsOf}
 use Rattle.theory.specs.SettledList.{decided}
 use Rattle.theory.specs.State.{initial}
-use Rattle.theory.specs.Table.{zeros, nonzeros, refused, check}
+use Rattle.theory.specs.Table.{closes, zeros, nonzeros, refused, isUnknown, check}
 use Rattle.theory.specs.Propagation.{Settled, dead, rest, settle}
 use Rattle.theory.specs.Tree.{Result}
 use Rattle.theory.specs.Search.{search, planOf, trailOf}
@@ -127,10 +129,17 @@ pub record AddCall : Type 0 where
 abbrev pub addRefused : Refusal → List ℤ → AddCall
 addRefused r b = record { answer = adding.Refused r; buffer = b }
 
--- "5 on the list (place u plus its index there)": a zero there too; i is the place of the first element
-unfoldable pub unknownIn : ℕ → ℕ → List ℤ → Checked
-unknownIn i n [] = Passed
-unknownIn i n (e ∷ g) = cond (eqb (natAbs e) 0 || ltb n (natAbs e)) (refused UnknownVariable i) (unknownIn (suc i) n g)
+-- "or a zero .. in an added list"
+abbrev pub isWrong : ℕ → ℤ → Bool
+isWrong n e = closes e || isUnknown n e
+
+abbrev pub listUnknown : ℕ → Option ℕ → Checked
+listUnknown k none = Passed
+listUnknown k (some i) = refused (unknownVariable k) i
+
+-- "5 on the list (place u plus its index there)"; k is the number that the added group would have (document 02, A2)
+unfoldable pub unknownIn : ℕ → ℕ → ℕ → List ℤ → Checked
+unknownIn u k n g = listUnknown k (firstPlace (isWrong n) u g)
 
 -- "The list and a closing 0 are stored at u"
 abbrev pub added : ℕ → List ℤ → List ℤ → List ℤ
@@ -148,7 +157,7 @@ addChecked (Refused r) u n g b = addRefused r b
 addChecked Passed u n g b =
     cond (ltb maxClauses (zeros (take u b) + 1)) (addRefused (refusal TooManyClauses 0) b)
     (cond (ltb maxLiterals (nonzeros (take u b) + length g)) (addRefused (refusal TooManyLiterals 0) b)
-    (addKnown (unknownIn u n g) u g b))
+    (addKnown (unknownIn u (zeros (take u b) + 1) n g) u g b))
 
 -- "Add: 12, then 1 to 5 on the used part"
 unfoldable pub addCall : ℕ → ℕ → List ℤ → List ℤ → AddCall
@@ -204,16 +213,16 @@ solveVariables s = readVariables (readStrip s maxTable .reading)
 
 -- Window ----------------------------------------------------------------------------------------------------------
 
--- "The receipt's first 12 bytes become number, place and count"
+-- "The receipt becomes 16 bytes, with the group number last" (document 02, A2)
 abbrev pub receiptLength : ℕ
-receiptLength = 12
+receiptLength = 16
 
 -- "four bytes each, high byte first"
 abbrev pub bytes4 : ℕ → List ℕ
 bytes4 v = v / 16777216 ∷ v / 65536 % 256 ∷ v / 256 % 256 ∷ v % 256 ∷ []
 
 abbrev pub receiptBytes : Receipt → List ℕ
-receiptBytes r = bytes4 (r .number) ++ (bytes4 (r .place) ++ bytes4 (r .count))
+receiptBytes r = bytes4 (r .number) ++ (bytes4 (r .place) ++ (bytes4 (r .count) ++ bytes4 (r .clause .0)))
 
 pub record WindowCall : Type 0 where
   pub number : ℕ

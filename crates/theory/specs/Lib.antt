@@ -11,5 +11,6 @@ pub mod Strip
 pub mod Encoding
 pub mod Heads
 pub mod Calls
+pub mod Unknown
 pub mod SettledList
 pub mod Filings

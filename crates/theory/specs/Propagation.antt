@@ -2,6 +2,7 @@
 use mathlib.Core.List.{List, [], _∷_, map}
 use mathlib.Core.Option.{Option, none, some, Option·map, orElse}
 use Prim.Native.Nat.{ℕ, zero, suc}
+use Rattle.literal.specs.Literal.{clauseNumber}
 use Rattle.theory.specs.Formula.{Clause, Formula}
 use Rattle.theory.specs.State.{State, standing, assign}
 use Rattle.theory.specs.declared.Asked.{Asked}
@@ -11,7 +12,7 @@ use Rattle.theory.specs.Rules.{rule1, rule2, rule3, rule4, rule5, rule6,
 
 -- what clause k asks, "the number of the group" (of a pair, of the later one)
 abbrev pub askedBy : ℕ → Step → Asked
-askedBy k s = record { clause = record { 0 = k }; step = s }
+askedBy k s = record { clause = clauseNumber k; step = s }
 
 -- the first clause that a rule fits; the first of the list has number k
 unfoldable pub firstClause : (Clause → Option Step) → ℕ → List Clause → Option Asked

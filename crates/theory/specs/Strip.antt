@@ -10,11 +10,11 @@ use Rattle.general.specs.Search.{find}
 use Rattle.literal.specs.declared.Literal.{Literal}
 use Rattle.literal.specs.declared.Literal.the-variants.{Pos, Neg}
 use Rattle.literal.specs.Literal.{var, entryOf, maxVariables, maxClauses, maxLiterals}
-use Rattle.receipt.specs.declared.Fault.the-variants.{TooManyVariables, TooManyClauses, TooManyLiterals, UnknownVariable, UnknownMark, CutStrip, OutOfTurn, TableShort, StripTooLong}
+use Rattle.receipt.specs.declared.Fault.the-variants.{TooManyVariables, TooManyClauses, TooManyLiterals, UnknownMark, CutStrip, OutOfTurn, TableShort, StripTooLong}
 use Rattle.receipt.specs.declared.Refusal.{Refusal}
 use Rattle.receipt.specs.declared.Reading.{Reading}
 use Rattle.receipt.specs.declared.Reading.the-variants as reading
-use Rattle.receipt.specs.Receipt.{refusal}
+use Rattle.receipt.specs.Receipt.{unknownVariable, refusal}
 use Rattle.theory.specs.declared.Mark.{Mark}
 use Rattle.theory.specs.declared.Mark.the-variants.{Placements, Chapter, Opens, Taken, LeftOut, Closes, Ends}
 use Rattle.theory.specs.declared.Turn.{Turn}
@@ -109,10 +109,10 @@ progress t n c l = record { turn = t; variables = n; clauses = c; literals = l }
 abbrev pub nothingRead : Progress
 nothingRead = progress Start 0 0 0
 
--- an entry: "value (1 or 5), limit (.., 3 at the 2,049th entry)"
+-- an entry: "value (1 or 5), limit (.., 3 at the 2,049th entry)"; 5 names the group that is open, the last one opened
 abbrev pub entered : Progress → Literal → Obeyed
 entered p l =
-    cond (eqb (var l) 0 || ltb (p .variables) (var l)) (Refused UnknownVariable)
+    cond (eqb (var l) 0 || ltb (p .variables) (var l)) (Refused (unknownVariable (p .clauses)))
     (cond (ltb (p .literals) maxLiterals)
     (Goes (progress Inside (p .variables) (p .clauses) (p .literals + 1)) (Element (entryOf l)))
     (Refused TooManyLiterals))

@@ -1,15 +1,18 @@
 -- What every operation asks of a table first: document 01's refusals 1 to 5, each over the whole table before the next.
 use mathlib.Core.Bool.{Bool, false, not, cond}
 use mathlib.Core.List.{List, [], _∷_, _++_, List·Memᴰ}
+use mathlib.Core.Option.{Option, none, some}
 use mathlib.Core.Path.{_≡_}
-use Prim.Native.Nat.{ℕ, suc, _+_, _≤_}
+use Prim.Native.Nat.{ℕ, _+_, _≤_}
 use lib.Dec.{ltb, eqb}
 use lib.IntN.{ℤ, natAbs, pos as posℤ}
+use lib.ListN.{take}
 use Rattle.general.specs.Booleans.{bit}
+use Rattle.general.specs.Search.{firstPlace}
 use Rattle.literal.specs.Literal.{maxVariables, maxClauses, maxLiterals}
 use Rattle.receipt.specs.declared.Fault.{Fault}
-use Rattle.receipt.specs.declared.Fault.the-variants.{TooManyVariables, TooManyClauses, TooManyLiterals, OpenClause, UnknownVariable}
-use Rattle.receipt.specs.Receipt.{refusal}
+use Rattle.receipt.specs.declared.Fault.the-variants.{TooManyVariables, TooManyClauses, TooManyLiterals, OpenClause}
+use Rattle.receipt.specs.Receipt.{unknownVariable, refusal}
 use Rattle.receipt.specs.declared.Checked.{Checked}
 use Rattle.receipt.specs.declared.Checked.the-variants.{Passed, Refused}
 
@@ -34,10 +37,14 @@ endsOpen b (e ∷ t) = endsOpen (not (closes e)) t
 abbrev pub refused : Fault → ℕ → Checked
 refused why at = Refused (refusal why at)
 
--- "Place of 5 is the first wrong index": i is the index of the first element
-unfoldable pub unknownFrom : ℕ → ℕ → List ℤ → Checked
-unknownFrom i n [] = Passed
-unknownFrom i n (e ∷ t) = cond (ltb n (natAbs e)) (refused UnknownVariable i) (unknownFrom (suc i) n t)
+-- "entry's size above n"
+abbrev pub isUnknown : ℕ → ℤ → Bool
+isUnknown n e = ltb n (natAbs e)
+
+-- "Place of 5 is the first wrong index"; its group's number (document 02, A2) is one more than the zeros before it
+abbrev pub tableUnknown : List ℤ → Option ℕ → Checked
+tableUnknown t none = Passed
+tableUnknown t (some i) = refused (unknownVariable (zeros (take i t) + 1)) i
 
 unfoldable pub check : ℕ → List ℤ → Checked
 check n t =
@@ -45,7 +52,7 @@ check n t =
     (cond (ltb maxClauses (zeros t)) (refused TooManyClauses 0)
     (cond (ltb maxLiterals (nonzeros t)) (refused TooManyLiterals 0)
     (cond (endsOpen false t) (refused OpenClause 0)
-    (unknownFrom 0 n t))))
+    (tableUnknown t (firstPlace (isUnknown n) 0 t)))))
 
 -- the check passes
 abbrev pub Accepted : ℕ → List ℤ → Type 0

@@ -5,10 +5,13 @@ use mathlib.Core.List.{List, [], _∷_, _++_, map, append-assoc}
 use Prim.Native.Nat.{ℕ, zero, suc, _/_, _%_}
 use native.Mathlib.Omega.{arith}
 use borrow.Author.Tests.{ne-eqb}
-use lib.Dec.{ltb}
+use lib.Dec.{eqb, ltb}
+use Rattle.general.specs.Booleans.{cond-ind}
 use Rattle.general.specs.Times.{times}
 use Rattle.general.specs.Repeats.{times-append}
-use Rattle.text.specs.Text.{codes, digit, digitsWithin, decimal, spaced, line}
+use Rattle.receipt.specs.declared.Refusal.{Refusal}
+use Rattle.receipt.specs.Receipt.{numberOf, namedClause}
+use Rattle.text.specs.Text.{codes, digit, digitsWithin, decimal, spaced, line, refusedText}
 use Rattle.typed.specs.Typed.{OneLine}
 
 digit-none : (v : ℕ) → times 10 (digit v ∷ []) ≡ 0
@@ -35,3 +38,12 @@ pub one-line : (w vs : List ℕ) → times 10 w ≡ 0 → OneLine (line w (map d
 one-line w vs h =
     let n = spaced (map decimal vs) in
     (w ++ n, sym (append-assoc w n (codes "\n")), omega (arith, times-append 10 w n, numbers-none vs))
+
+-- the line of a refusal, with and without a group
+pub refused-line : (f : Refusal) → OneLine (refusedText f)
+unfolding times
+refused-line f =
+    let why = f .fault in
+    cond-ind (λ ws. OneLine (line (codes "refused") (decimal (numberOf why) ∷ decimal (f .place) ∷ ws))) _ _ (eqb (numberOf why) 5)
+    (λ _. one-line (codes "refused") (numberOf why ∷ f .place ∷ namedClause why .0 ∷ []) refl)
+    (λ _. one-line (codes "refused") (numberOf why ∷ f .place ∷ []) refl)

@@ -15,7 +15,6 @@ use Rattle.general.specs.Times.{times}
 use Rattle.receipt.specs.declared.Checked.{Checked}
 use Rattle.receipt.specs.declared.Checked.the-variants.{Passed, Refused}
 use Rattle.receipt.specs.declared.Reading.the-variants.{Read}
-use Rattle.receipt.specs.Receipt.{numberOf}
 use Rattle.theory.specs.Table.{check}
 use Rattle.theory.specs.Strip.{readStrip}
 use Rattle.theory.specs.Encoding.{savedStrip}
@@ -25,7 +24,7 @@ use Rattle.text.specs.Text.{codes, refusedText}
 use Rattle.typed.specs.declared.Typed.{Typed}
 use Rattle.typed.specs.Typed.{maxText, Output, strip, message, tooLongText, wrongText, tableOutput, filingOutput, outputOf, TypedCall, called, outputCall, lengthOf, written, Filed, OneLine}
 use Rattle.typed.proofs.Outputs.{too-long}
-use Rattle.typed.proofs.Messages.{one-line}
+use Rattle.typed.proofs.Messages.{one-line, refused-line}
 
 filed-output : {s : List ℕ} {n : ℕ} {t : List ℤ} → Filed s n t → outputOf s ≡ strip (savedStrip n t)
 unfolding outputOf
@@ -45,7 +44,7 @@ says s = go (ltb maxText (length s)) refl (filingOf s) refl
 
     table : ltb maxText (length s) ≡ false → (n : ℕ) (t : List ℤ) → filingOf s ≡ filing n t → (c : Checked) → check n t ≡ c → Says s (tableOutput c n t)
     table h n t q Passed e = (n, t, record { short = ltb-false maxText (length s) h; is = q; accepted = e }, refl)
-    table h n t q (Refused f) e = (one-line (codes "refused") (numberOf (f .fault) ∷ f .place ∷ []) refl, no (refusedText f) (rw (h, q, e)))
+    table h n t q (Refused f) e = (refused-line f, no (refusedText f) (rw (h, q, e)))
 
     go : (b : Bool) → ltb maxText (length s) ≡ b → (f : Filing) → filingOf s ≡ f → Says s (cond b (message tooLongText) (filingOutput f))
     go true h f q = (one-line (codes "text too long at byte") (maxText ∷ []) refl, no tooLongText (rw h))

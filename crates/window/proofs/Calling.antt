@@ -1,6 +1,5 @@
 -- What code writes on the receipt is the call of the window; no place on it is past the longest strip.
-use mathlib.Core.Path.{_≡_, refl, ap, sym, _∙_}
-use mathlib.Core.Bool.{true, false}
+use mathlib.Core.Path.{_≡_, refl, ap, _∙_}
 use mathlib.Core.List.{List}
 use Prim.Native.Nat.{ℕ, _<_, _≤_}
 use native.Mathlib.Omega.{arith}
@@ -11,7 +10,6 @@ use lib.ListN.{length, replicate}
 use lib.Seq.{sets-eq}
 use Rattle.general.specs.Booleans.{cond-ind}
 use Rattle.literal.specs.Literal.{maxVariables, maxTable}
-use Rattle.receipt.specs.declared.Checked.{Checked}
 use Rattle.receipt.specs.declared.Checked.the-variants as checked
 use Rattle.receipt.specs.declared.Fault.the-variants.{ReceiptShort}
 use Rattle.receipt.specs.declared.Reading.{Reading}
@@ -20,17 +18,17 @@ use Rattle.receipt.specs.declared.Receipt.{Receipt}
 use Rattle.receipt.specs.declared.Searching.{Searching}
 use Rattle.receipt.specs.Receipt.{numberOf}
 use Rattle.receipt.specs.Answers.{searchingReceipt}
-use Rattle.theory.specs.Calls.{over, SearchCall, searchedCall, searchChecked, searchCall, solveRead, solveCall, receiptLength, receiptBytes, written, windowCall}
+use Rattle.theory.specs.Calls.{over, SearchCall, searchChecked, searchCall, solveRead, solveCall, receiptLength, receiptBytes, written, windowCall}
 use Rattle.theory.specs.Strip.{maxStrip, readStrip}
 use Rattle.strip.proofs.Ends.{refusal-bound}
 use Rattle.strip.proofs.Accepted.{read-accepted}
 use Rattle.search.specs.Call as search
 use Rattle.window.specs.Window.{put4, called}
 
--- three numbers one after the other
-pub three-numbers : (r : Receipt) (l a b c : List ℕ) → receiptLength ≤ length l → a ≡ put4 0 (r .number) l → b ≡ put4 4 (r .place) a → c ≡ put4 8 (r .count) b →
-    c ≡ over receiptLength (receiptBytes r) l
-three-numbers r l a b c h p q e = rw (e, q, p) (sets-eq (receiptBytes r) l 0 h)
+-- four numbers one after the other
+pub four-numbers : (r : Receipt) (l a b c d : List ℕ) → receiptLength ≤ length l → a ≡ put4 0 (r .number) l → b ≡ put4 4 (r .place) a → c ≡ put4 8 (r .count) b →
+    d ≡ put4 12 (r .clause .0) c → d ≡ over receiptLength (receiptBytes r) l
+four-numbers r l a b c d h p q e f = rw (f, e, q, p) (sets-eq (receiptBytes r) l 0 h)
 
 -- places ------------------------------------------------------------------------------------------------------------
 

@@ -2,7 +2,6 @@
 -- A call of an acceptable strip is a call of Search on the table of its groups, with a trail of the window's own: so what Search promises holds here too.
 -- All of it follows from the equation that `window` ensures.
 use mathlib.Core.Path.{_≡_, refl, ap, sym, _∙_}
-use mathlib.Core.Bool.{true}
 use mathlib.Core.Logic.{_⊎_, inl, inr, ⊎-elim, _↔_}
 use mathlib.Core.List.{List, [], _∷_, map}
 use Prim.Native.Nat.{ℕ, _+_, _≤_, _<_, min}
@@ -12,7 +11,6 @@ use borrow.Author.Tests.{le-ltb}
 use lib.IntN.{ℤ, pos as posℤ}
 use lib.ListN.{length, take, drop, replicate, length-map, length-append, length-replicate}
 use Rattle.general.specs.Booleans.{bit}
-use Rattle.literal.specs.declared.Literal.{Literal}
 use Rattle.literal.specs.Literal.{entryOf, maxVariables, maxTable}
 use Rattle.receipt.specs.declared.Fault.the-variants.{PlanShort, ReceiptShort, TableShort}
 use Rattle.receipt.specs.declared.Outcome.{Outcome}
@@ -24,7 +22,7 @@ use Rattle.receipt.specs.declared.Refusal.{Refusal}
 use Rattle.receipt.specs.declared.Searching.{Searching}
 use Rattle.receipt.specs.Receipt.{numberOf, outcomeNumber, refusal}
 use Rattle.receipt.specs.Answers.{searchingReceipt}
-use Rattle.receipt.proofs.Numbers.{answers, not-refused}
+use Rattle.receipt.proofs.Numbers.{not-refused, outcome-answers}
 use Rattle.theory.specs.Bound.{N}
 use Rattle.theory.specs.Calls.{over, SearchCall, searchRefused, searchCall, readCall, solveCall, receiptLength, receiptBytes, WindowCall, written, windowCall}
 use Rattle.theory.specs.Encoding.{Item, groups, tableOf, entries, StripWithin, Bytes}
@@ -32,17 +30,19 @@ use Rattle.theory.specs.Formula.{Formula, Choice, clauses, Solution}
 use Rattle.theory.specs.Order.{_≼_, Least}
 use Rattle.theory.specs.Search.{needs}
 use Rattle.theory.specs.Strip.{Decoding, nothingRead, readStrip}
+use Rattle.theory.specs.Unknown.{UnknownInStrip, Names}
 use Rattle.theory.proofs.Encodings.{clauses-table}
 use Rattle.theory.proofs.Tables.{accepted-sizes}
 use Rattle.strip.proofs.Accepted.{read-accepted}
 use Rattle.strip.proofs.Ends.{Ended, answered}
 use Rattle.strip.proofs.Promises.{within-reads, accepted-exactly}
 use Rattle.search.specs.Call as search
+use Rattle.strip.proofs.Named.{strip-names}
 use Rattle.search.proofs.Calling.{call-plan-short}
 use Rattle.search.proofs.Promises as promises
 use Rattle.window.specs.Window.{called}
 use Rattle.window.proofs.Calling.{call-short}
-use Rattle.window.specs.Call.{Acceptable, Stamped, Call, Reports, refusedCall, numberAt, countOf, Alike}
+use Rattle.window.specs.Call.{Acceptable, Stamped, Call, Reports, refusedCall, numberAt, countOf, receiptOn, Alike}
 
 -- the table of a strip within the limits ---------------------------------------------------------------------------
 
@@ -61,8 +61,11 @@ strip-exactly s b n u t k e = let r = accepted-exactly s t (readCall s t .answer
 -- what is on the receipt -------------------------------------------------------------------------------------------
 
 numbers-read : (r : Receipt) (old : List ℕ) → let new = over receiptLength (receiptBytes r) old in
-    (numberAt 0 new ≡ r .number) × (numberAt 4 new ≡ r .place) × (numberAt 8 new ≡ r .count)
-numbers-read r old = (omega arith, omega arith, omega arith)
+    (numberAt 0 new ≡ r .number) × (numberAt 4 new ≡ r .place) × (numberAt 8 new ≡ r .count) × (numberAt 12 new ≡ r .clause .0)
+numbers-read r old = (omega arith, omega arith, omega arith, omega arith)
+
+receipt-read : (r : Receipt) (old : List ℕ) → receiptOn (over receiptLength (receiptBytes r) old) ≡ r
+receipt-read r old = let n = numbers-read r old in rw (n .0, n .1, n .2, n .3)
 
 -- solving, by how the strip reads ----------------------------------------------------------------------------------
 
@@ -74,11 +77,6 @@ module _ (s : List ℕ) (b : ℕ) (plan : List ℕ) (trail : List ℤ) where
   solve-reads : (n u : ℕ) → readStrip s maxTable .reading ≡ Read n u → solveCall s b plan trail ≡ searchCall n (readStrip s maxTable .table) b plan trail
   unfolding solveCall
   solve-reads n u e = rw e
-
-outcome-answers : (o : Outcome) → answers (outcomeNumber o) ≡ true
-outcome-answers LaidOut = refl
-outcome-answers NoLayout = refl
-outcome-answers Stopped = refl
 
 outcome-not-short : (o : Outcome) → ¬ (outcomeNumber o ≡ numberOf TableShort)
 outcome-not-short LaidOut e = omega arith
@@ -104,11 +102,20 @@ module _ {s : List ℕ} {b : ℕ} {plan old : List ℕ} {w : WindowCall} (h : St
 
   stamped : w ≡ written (solveCall s b plan own) old
   unfolding windowCall
-  stamped = h .is ∙ rw (le-ltb (length old) receiptLength (h .receipt-room))
+  stamped = h .is ∙ rw (le-ltb (length old) receiptLength (omega (arith, h .receipt-room)))
 
   -- "The call itself returns the number": the one on the receipt
   pub window-number : numberAt 0 (w .receipt) ≡ w .number
   window-number = rw stamped (numbers-read (searchingReceipt (solveCall s b plan own .answer)) old .0)
+
+  -- A2: 5 names the group of the strip that is open at its place; "for all other numbers it is 0"
+  pub window-names : Bytes s → Names (UnknownInStrip s) (receiptOn (w .receipt))
+  unfolding searchCall
+  window-names k = rw (stamped, receipt-read) (go (readStrip s maxTable .reading) refl)
+    where
+      go : (r : Reading) → readStrip s maxTable .reading ≡ r → Names (UnknownInStrip s) (searchingReceipt (solveCall s b plan own .answer))
+      go (Refused f) e = rw (solve-refused s b plan own f e) (rw e at (strip-names s k maxTable))
+      go (Read n u) e = rw (solve-reads s b plan own n u e, read-accepted s maxTable n u e) (promises.passed-names n (readStrip s maxTable .table) b plan own)
 
   -- "Elements not named are never changed."
   pub window-receipt-rest : drop receiptLength (w .receipt) ≡ drop receiptLength old

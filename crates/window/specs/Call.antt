@@ -3,7 +3,9 @@ use mathlib.Core.Path.{_≡_}
 use mathlib.Core.List.{List}
 use Prim.Native.Nat.{ℕ, _+_, _*_, _≤_}
 use lib.ListN.{length, take, getD}
+use Rattle.literal.specs.Literal.{clauseNumber}
 use Rattle.receipt.specs.declared.Outcome.{Outcome}
+use Rattle.receipt.specs.declared.Receipt.{Receipt}
 use Rattle.receipt.specs.declared.Refusal.{Refusal}
 use Rattle.receipt.specs.Receipt.{outcomeNumber, refusedReceipt}
 use Rattle.theory.specs.Calls.{over, receiptLength, receiptBytes, WindowCall, windowCall}
@@ -29,7 +31,7 @@ pub record Call (s : List ℕ) (n : ℕ) (l : List Item) (b : ℕ) (plan old : L
 abbrev pub Reports : WindowCall → Outcome → Type 0
 Reports w o = w .number ≡ outcomeNumber o
 
--- "a refused call changes no lent element except a receipt long enough to be written": its "first 12 bytes become number, place and count"
+-- "a refused call changes no lent element except a receipt long enough to be written": "16 bytes", number, place and count, "with the group number last"
 abbrev pub refusedCall : Refusal → List ℕ → List ℕ → WindowCall
 refusedCall f plan old = let r = refusedReceipt f in record { number = r .number; plan = plan; receipt = over receiptLength (receiptBytes r) old }
 
@@ -39,6 +41,10 @@ numberAt i r = ((getD r i 0 * 256 + getD r (i + 1) 0) * 256 + getD r (i + 2) 0) 
 
 abbrev pub countOf : WindowCall → ℕ
 countOf w = numberAt 8 (w .receipt)
+
+-- all that stands on a receipt
+abbrev pub receiptOn : List ℕ → Receipt
+receiptOn r = record { number = numberAt 0 r; place = numberAt 4 r; count = numberAt 8 r; clause = clauseNumber (numberAt 12 r) }
 
 -- "alike in the outcome, the count, the first n of the plan": the window lends no trail
 pub record Alike (n : ℕ) (w w′ : WindowCall) : Type 0 where

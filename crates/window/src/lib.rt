@@ -9,8 +9,8 @@ use literal::Literal;
 use receipt::Fault;
 use receipt::Receipt;
 
-// "The receipt's first 12 bytes"
-const RECEIPT_LENGTH: usize = 12;
+// "The receipt becomes 16 bytes, with the group number last"
+const RECEIPT_LENGTH: usize = 16;
 
 // A number as four bytes, the high one first.
 fn put_number(list: &mut [u8], at: usize, value: u32)
@@ -31,6 +31,8 @@ fn write_receipt(list: &mut [u8], receipt: Receipt)
     put_number(list, 0, receipt.number);
     put_number(list, 4, receipt.place as u32);
     put_number(list, 8, receipt.count);
+    let clause = receipt.clause;
+    put_number(list, 12, clause.0 as u32);
 }
 
 // The trail is the window's own: nobody sees it.

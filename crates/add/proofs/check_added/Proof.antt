@@ -6,12 +6,16 @@ use borrow.Author.Tests.{lt-ltb, le-ltb}
 use native.Mathlib.Omega.{arith}
 use lib.ListN.{length, take, length-take}
 use lib.Seq.{length-take-le}
+use Rattle.literal.specs.declared.ClauseNumber.{ClauseNumber}
 use Rattle.literal.specs.Literal.{maxClauses, maxLiterals}
-use Rattle.receipt.specs.declared.Fault.the-variants.{TooManyClauses, TooManyLiterals}
+use Rattle.receipt.specs.declared.Fault.the-variants.{TooManyClauses, TooManyLiterals, TableShort}
 use Rattle.theory.specs.Table.{zeros, nonzeros, check}
-use Rattle.table.specs.Tally.{verdict, passed}
+use Rattle.theory.specs.Calls.{unknownIn}
+use Rattle.table.specs.declared.Tally.{Tally}
+use Rattle.table.specs.Tally.{verdict, passed, clauseAfter}
 use Rattle.table.proofs.Tallies.{tally-clauses, tally-literals, tally-passed, verdict-check}
-use Rattle.add.specs.Add.{atMost, checkAdded}
+use Rattle.add.specs.Add.{atMost, firstRefusal, checkAdded}
+use Rattle.add.proofs.Refusals.{list-numbered}
 use Rattle.add.proofs.check_added.Statement.{statement}
 use Rattle.add.proofs.check_added.Tie as tie
 
@@ -48,6 +52,17 @@ literals-check c =
     let a = h .before .before .before .args in
     c .at-most2 .ensures ∙ rw (h .tally-of .ensures, tally-literals (a .n) (take (a .used) (a .buffer .now)))
 
+-- the number that the group would have
+list-check : (c : tie.After-unknown-in) →
+    let a = c .before .before .before .before .before .before .before .before .before .before .args in
+    c .unknown-in .result ≡ unknownIn (a .used) (clauseAfter (zeros (take (a .used) (a .buffer .now))) .0) (a .n) (a .group .now)
+list-check c =
+    let h = c .before .before .before .before .before .before .before in
+    let a = h .before .before .before .args in
+    let z : c .before .clause-after .result ≡ clauseAfter (zeros (take (a .used) (a .buffer .now))) =
+    c .before .clause-after .ensures ∙ ap clauseAfter (ap (λ (s : Tally). s .clauses) (h .tally-of .ensures) ∙ tally-clauses (a .n) (take (a .used) (a .buffer .now))) in
+    c .unknown-in .ensures ∙ ap (λ (k : ClauseNumber). unknownIn (a .used) (k .0) (a .n) (a .group .now)) z
+
 returns-2 : tie.Need-returns-2
 unfolding checkAdded
 returns-2 c =
@@ -56,22 +71,25 @@ returns-2 c =
     let limits = list .before in
     let room = limits .before in
     let unknown = room .before in
-    let literals = unknown .before in
+    let literals = unknown .before .before in
     let clauses = literals .before .before in
     let table = clauses .before .before in
     let h = table .before .before .before in
+    let a = h .before .args in
+    let t = take (a .used) (a .buffer .now) in
+    let g = a .group .now in
     rw (
       c .first-refusal4 .ensures,
       rest .first-refusal3 .ensures,
       list .first-refusal2 .ensures,
       limits .first-refusal .ensures,
       room .at-most3 .ensures,
-      unknown .unknown-in .ensures,
+      list-check unknown,
       literals-check literals,
       clauses-check clauses,
       table-check table,
       le-ltb _ _ (h .if1 .left),
-    )
+    ) (ap (firstRefusal (check (a .n) t)) (list-numbered (a .used) (zeros t) (a .n) g (atMost (nonzeros t + length g) maxLiterals TooManyLiterals) (atMost (a .used + length g + 1) (length (a .buffer .now)) TableShort)))
 
 pub check-added-spec : {M : Type 1} → statement M
 check-added-spec =
@@ -85,6 +103,7 @@ check-added-spec =
     (λ c. record { fits = omega (arith, few (c .before .before)) })
     (λ c κs. search needs)
     (λ c. record { fits = omega (arith, few (c .before .before .before .before)) })
+    (λ c κs. search needs)
     (λ c κs. search needs)
     (λ c κs. search needs)
     (λ c. search needs)

@@ -14,10 +14,10 @@ use Rattle.add.proofs.unknown_in.Statement.{statement}
 use Rattle.add.proofs.unknown_in.Tie as tie
 
 abbrev Inv-loop : tie.InvT-loop
-Inv-loop at n group i₀ i-end i = (i-end ≡ length group) × (i ≤ i-end) × (unknownIn (at + i) n (drop i group) ≡ unknownIn at n group)
+Inv-loop at clause n group i₀ i-end i = (i-end ≡ length group) × (i ≤ i-end) × (unknownIn (at + i) (clause .0) n (drop i group) ≡ unknownIn at (clause .0) n group)
 
 abbrev μ-loop : tie.MeasureT-loop
-μ-loop at n group i₀ i-end i = i-end - i
+μ-loop at clause n group i₀ i-end i = i-end - i
 
 loop-holds : tie.Need-loop-holds Inv-loop μ-loop
 loop-holds c = (refl, omega arith, rw add-zero)
@@ -33,19 +33,19 @@ returns c =
     let h = k .before .before .before in
     let a = h .before .args in
     c .refused .ensures
-    ∙ sym (unknown-here (a .at) (a .n) (a .group .now) (h .loop .i) (search needs) (sym (tested k) ∙ not-true _ (c .before .if1 .taken)))
+    ∙ sym (unknown-here (a .at) (a .clause .0) (a .n) (a .group .now) (h .loop .i) (search needs) (sym (tested k) ∙ not-true _ (c .before .if1 .taken)))
     ∙ h .loop .inv .2
 
 loop-again : tie.Need-loop-again Inv-loop μ-loop
 loop-again c =
     let h = c .before .before .before .before in
     let a = h .before .args in
-    (refl, search needs, unknown-next (a .at) (a .n) (a .group .now) (h .loop .i) (search needs) (sym (tested (c .before)) ∙ not-false _ (c .if1 .left)) ∙ h .loop .inv .2)
+    (refl, search needs, unknown-next (a .at) (a .clause .0) (a .n) (a .group .now) (h .loop .i) (search needs) (sym (tested (c .before)) ∙ not-false _ (c .if1 .left)) ∙ h .loop .inv .2)
 
 returns-2 : tie.Need-returns-2 Inv-loop μ-loop
 returns-2 c =
     let a = c .before .before .args in
-    sym (unknown-end (a .at) (a .n) (a .group .now) (c .before .loop .i) (search needs)) ∙ c .before .loop .inv .2
+    sym (unknown-end (a .at) (a .clause .0) (a .n) (a .group .now) (c .before .loop .i) (search needs)) ∙ c .before .loop .inv .2
 
 pub unknown-in-spec : {M : Type 1} → statement M
 unknown-in-spec =

@@ -8,7 +8,7 @@ use Rattle.table.proofs.counted.Statement.{statement}
 use Rattle.table.proofs.counted.Tie as tie
 
 found : (c : tie.After-earlier) →
-    let a = c .before .before .args in c .earlier .result ≡ earlier (a .tally .unknown) (unknownAt (passed (a .tally)) (a .n) (a .size))
+    let a = c .before .before .args in c .earlier .result ≡ earlier (a .tally .unknown) (unknownAt (passed (a .tally)) (a .tally .clauses) (a .n) (a .size))
 found c = c .earlier .ensures ∙ ap (earlier (c .before .before .args .tally .unknown)) (c .before .unknown-at .ensures)
 
 pub counted-spec : {M : Type 1} → statement M

@@ -44,7 +44,9 @@ returns-5 : tie.Need-returns-5
 returns-5 c = sym (ended (c .before .before) ∙ ap refusedAt (c .enum-told .given .1))
 
 returns-6 : tie.Need-returns-6
-returns-6 c = c .refused5 .ensures ∙ sym (ended (c .before .before .before .before) ∙ ap refusedAt (c .before .before .unknown .given .1))
+returns-6 c =
+    let h = c .before .before .before .before .before in
+    c .refused5 .ensures ∙ rw (c .before .clause-after .ensures) (sym (ended h ∙ ap refusedAt (c .before .before .before .unknown .given .1)))
 
 pub verdict-spec : {M : Type 1} → statement M
 verdict-spec =
@@ -60,6 +62,7 @@ verdict-spec =
     returns-4
     (λ c. search needs)
     (λ c. search needs)
+    (λ c κs. search needs)
     (λ c κs. search needs)
     returns-5
     returns-6)

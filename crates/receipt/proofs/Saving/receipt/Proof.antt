@@ -10,7 +10,8 @@ receipt-spec =
     tie.close
     (tie.spec
     (λ c. search needs)
+    (λ c κs. search needs)
     (λ c. search needs)
     (λ c κs. search needs)
-    (λ c. sym (ap savingReceipt (c .before .answer .given .1)))
+    (λ c. c .plain .ensures ∙ sym (ap savingReceipt (c .before .before .answer .given .1)))
     (λ c. c .receipt .ensures ∙ sym (ap savingReceipt (c .before .before .answer2 .given .1))))

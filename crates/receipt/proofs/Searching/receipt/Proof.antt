@@ -11,7 +11,8 @@ receipt-spec =
     (tie.spec
     (λ c. search needs)
     (λ c κs. search needs)
+    (λ c κs. search needs)
     (λ c. search needs)
     (λ c κs. search needs)
-    (λ c. rw (c .number .ensures) (sym (ap searchingReceipt (c .before .before .answer .given .1))))
+    (λ c. rw (c .plain .ensures, c .before .number .ensures) (sym (ap searchingReceipt (c .before .before .before .answer .given .1))))
     (λ c. c .receipt .ensures ∙ sym (ap searchingReceipt (c .before .before .answer2 .given .1))))

@@ -1,0 +1,32 @@
+-- A2: the line that the layout program prints for a refused strip. With 5 it ends with the group that is open at the place; every other one keeps its two numbers.
+use mathlib.Core.Path.{_≡_}
+use mathlib.Core.Logic.{_≢_}
+use mathlib.Core.List.{List, [], _∷_}
+use Prim.Native.Nat.{ℕ}
+use borrow.Author.Tests.{ne-eqb}
+use Rattle.literal.specs.Literal.{maxTable}
+use Rattle.receipt.specs.declared.Reading.the-variants.{Refused}
+use Rattle.receipt.specs.declared.Refusal.{Refusal}
+use Rattle.receipt.specs.Receipt.{numberOf, namedClause}
+use Rattle.theory.specs.Calls.{solveCall}
+use Rattle.theory.specs.Encoding.{Bytes}
+use Rattle.theory.specs.Strip.{readStrip}
+use Rattle.theory.specs.Unknown.{UnknownInStrip}
+use Rattle.strip.proofs.Named.{strip-names}
+use Rattle.text.specs.Text.{codes, decimal, line, refusedText}
+use Rattle.report.specs.Report.{reportOf}
+
+module _ (s : List ℕ) (f : Refusal) (e : readStrip s maxTable .reading ≡ Refused f) where
+  -- a refused strip prints one line
+  report-refused : reportOf s ≡ refusedText f
+  unfolding reportOf solveCall
+  report-refused = rw e
+
+  -- "The layout program's refused line for 5 ends with the group number."
+  pub report-unknown : Bytes s → numberOf (f .fault) ≡ 5 →
+      (k : ℕ) × UnknownInStrip s k (f .place) × (reportOf s ≡ line (codes "refused") (decimal 5 ∷ decimal (f .place) ∷ decimal k ∷ []))
+  report-unknown b q = (namedClause (f .fault) .0, (rw e at (strip-names s b maxTable)) .unknown q, rw (report-refused, q))
+
+  -- its other lines stay
+  pub report-other : numberOf (f .fault) ≢ 5 → reportOf s ≡ line (codes "refused") (decimal (numberOf (f .fault)) ∷ decimal (f .place) ∷ [])
+  report-other h = rw (report-refused, ne-eqb (numberOf (f .fault)) 5 h)
