@@ -8,7 +8,7 @@
 #include "search.hpp"
 #include "window.h"
 
-enum { STRIP_LIMIT = 16384, PLAN_SIZE = 256, RECEIPT_SIZE = 12 };
+enum { STRIP_LIMIT = 16384, PLAN_SIZE = 256, RECEIPT_SIZE = 16 };
 
 inline std::vector<uint8_t> read_strip(FILE *in) {
     std::vector<uint8_t> strip(STRIP_LIMIT);

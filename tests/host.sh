@@ -22,7 +22,7 @@ same "host, as C++" "$("$prefix/host++")" "plan 0 0 1, 1 splits"
 gcc -std=c11 "${flags[@]}" tests/window_test.c "$archive" -o "$prefix/window_test"
 "$prefix/window_test"
 
-# the layout program: document 01's strip, and strips of 16,384 and of 16,385 bytes, both in order, with chapters in between
+# the layout program: document 01's strip, strips of 16,384 and of 16,385 bytes, both in order, with chapters in between, and a refusal that names its group
 chapters() { yes C | tr '\n' '\0' | head -c "$1"; }
 longest() { printf 'P\0\0'; chapters 16380; printf Z; }
 longer() { printf 'P\0\1GT\0\1E'; chapters 16376; printf Z; }
@@ -30,6 +30,7 @@ same "the strips' sizes" "$(longest | wc -c) $(longer | wc -c)" "16384 16385"
 same "layout" "$("$prefix/bin/layout" <crates/layout/stdin)" "$(cat crates/layout/stdout)"
 same "layout, 16,384 bytes" "$(longest | "$prefix/bin/layout")" $'laid out\ncount 0\nplan\ntrail'
 same "layout, 16,385 bytes" "$(longer | "$prefix/bin/layout")" "refused 24 0"
+same "layout, an unknown placement in the second group" "$(printf 'P\0\2GT\0\1ECGGT\0\3EZ' | "$prefix/bin/layout")" "refused 5 11 2"
 
 # strip_of: README's first example, the longest table, and a text of each kind that gets a line on standard error and nothing on standard output
 strip_of() { timeout 60 "$prefix/bin/strip_of"; }
@@ -46,6 +47,7 @@ same "strip_of, longest table, and layout" "$(longest_table | strip_of | "$prefi
 echo 3 1 2 x 0 | told "a word that is no number" "no valid number at byte 6"
 echo 3 1 70000 0 | told "a number of more than 16 bits" "no valid number at byte 4"
 printf '' | told "an empty text" "no valid number at byte 0"
-echo 2 1 -3 0 | told "an unknown placement" "refused 5 1"
+echo 2 1 -3 0 | told "an unknown placement" "refused 5 1 1"
+echo 2 1 0 0 2 -3 0 | told "an unknown placement in the third group" "refused 5 4 3"
 echo 257 | told "too many placements" "refused 1 0"
 yes 1 | told "a text without end" "text too long at byte 32768"

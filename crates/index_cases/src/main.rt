@@ -1,5 +1,5 @@
-// Indexes tables. Each line is the answer's number and place, then the first five heads and the last one of a list of 512, as start and entries. All are 9 9 before the
-// call, and the first `room` of them are lent.
+// Indexes tables. Each line is the answer's number, place, count and group, then the first five heads and the last one of a list of 512, as start and entries. All are
+// 9 9 before the call, and the first `room` of them are lent.
 ghost use Prim.Native.Nat.{_≤_};
 ghost use Rattle.literal.specs.Literal.{maxClauses};
 use literal::Literal;
@@ -54,7 +54,19 @@ fn refusals() {
     try_index(&[1i16, 0, -3, 0], 2, 0);
 }
 
+// An unknown placement in the first group, in a middle one, in the last, after groups with nothing in them, and in the 512th.
+fn unknowns() {
+    try_index(&[3i16, 0, 1, 0, 2, 0], 2, 3);
+    try_index(&[1i16, 0, 2, -3, 0, 1, 0], 2, 3);
+    try_index(&[1i16, 0, 2, 0, 1, 3, 0], 2, 3);
+    try_index(&[0i16, 0, 9, 0], 1, 3);
+    let mut table = [0i16; Literal::MAX_CLAUSES + 1];
+    table[Literal::MAX_CLAUSES - 1] = 9;
+    try_index(&table, 1, Literal::MAX_CLAUSES);
+}
+
 fn main() {
     groups();
     refusals();
+    unknowns();
 }

@@ -1,4 +1,5 @@
-// Strips, command by command as a reader finds them: the letter, the operand and the place of each, then the end or the refusal.
+// Strips, command by command as a reader finds them: the letter, the operand and the place of each, then the end or the refusal, with its number, place, count and
+// group.
 use receipt::Fault;
 use receipt::Refusal;
 use theory::Command;

@@ -40,6 +40,14 @@ fn refusals() {
     show(b"P\x00\x01ZZ");
 }
 
+// An unknown placement in a later group: after chapters, after groups with nothing in them, and a 0; then another refusal there.
+fn unknowns() {
+    show(b"P\x00\x02C\x01GT\x00\x01EC\x02GT\x00\x02L\x00\x03EGEZ");
+    show(b"P\x00\x01GEGEGT\x00\x09EZ");
+    show(b"P\x00\x01GECGGL\x00\x00EZ");
+    show(b"P\x00\x01GEGZ");
+}
+
 // The rest of the strip repeats a part.
 fn repeat(strip: &mut [u8], from: usize, part: &[u8])
     requires { ⌜ 0 < length (now part) ⌝ }
@@ -51,7 +59,7 @@ fn repeat(strip: &mut [u8], from: usize, part: &[u8])
     }
 }
 
-// 512 groups, with chapters between them, and one more.
+// 512 groups, with chapters between them, one more, and an unknown placement in the 512th.
 fn groups() {
     let mut all = [0u8; 2052];
     all[0] = b'P';
@@ -59,6 +67,9 @@ fn groups() {
     all[2051] = b'Z';
     show(&all);
     all[2051] = b'G';
+    show(&all);
+    all[2048] = b'T';
+    all[2049] = 0;
     show(&all);
 }
 
@@ -91,6 +102,7 @@ fn lengths() {
 fn main() {
     filings();
     refusals();
+    unknowns();
     groups();
     entries();
     lengths();

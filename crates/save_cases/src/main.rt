@@ -1,5 +1,5 @@
-// Saves tables as strips. Each line is the answer's number and place, and the strip buffer, all 9 before the call; of a table at the limits the first bytes, and
-// whether reading brings the table back.
+// Saves tables as strips. Each line is the answer's number, place, count and group, and the strip buffer, all 9 before the call; of a table at the limits the first
+// bytes, and whether reading brings the table back.
 use literal::Literal;
 use receipt::Saving;
 use trial::lists::first_bytes;
@@ -48,6 +48,14 @@ fn refusals() {
     save_sixteen(&[1i16, 1, 1, 1, 0], 1);
     save_sixteen(&[1i16, 1, 1, 1, 2], 1);
     save_sixteen(&[1i16, 1, 1, 2, 0], 1);
+}
+
+// An unknown placement in the first group, in a middle one, in the last, and after groups with nothing in them.
+fn unknowns() {
+    save_sixteen(&[3i16, 0, 1, 0, 2, 0], 2);
+    save_sixteen(&[1i16, 0, 2, -3, 0, 1, 0], 2);
+    save_sixteen(&[1i16, 0, 2, 0, 1, 3, 0], 2);
+    save_sixteen(&[0i16, 0, 9, 0], 1);
 }
 
 // Room for the strip, a byte less, and a byte more.
@@ -100,7 +108,7 @@ fn shown(answer: Saving, strip: &[u8]) {
     show::text(b" ..\n");
 }
 
-// 512 groups, 2,048 entries and 256 placements: a byte less than enough room, and just enough.
+// 512 groups, 2,048 entries and 256 placements: a byte less than enough room, and just enough; then an unknown placement in the last group, without enough room.
 fn at_the_limits() {
     let mut table = [0i16; Literal::MAX_TABLE];
     fill(&mut table);
@@ -109,6 +117,8 @@ fn at_the_limits() {
     let mut strip = [9u8; save::MAX_SAVED];
     shown(save::save(&table, N, &mut strip), &strip);
     read_back(&strip, &table);
+    put_entry(&mut table, 2558, -257);
+    shown(save::save(&table, N, &mut short), &short);
 }
 
 // One group more, and one entry more.
@@ -125,6 +135,7 @@ fn past_the_limits() {
 fn main() {
     filings();
     refusals();
+    unknowns();
     rooms();
     at_the_limits();
     past_the_limits();

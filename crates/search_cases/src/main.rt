@@ -1,10 +1,9 @@
-// Searches document 01's filings, and calls that are refused. Each line is the answer's number, place and count, and the first seven elements of plan and
-// trail, all 9 before the call.
+// Searches document 01's filings, and calls that are refused. Each line is the answer's number, place, count and group, and the first seven elements of plan
+// and trail, all 9 before the call.
 use receipt::Receipt;
 
 fn shown(receipt: Receipt, plan: &[u8], trail: &[i16]) {
     show::receipt(receipt);
-    show::number(receipt.count as u64);
     show::text(b" |");
     show::bytes(plan);
     if 0 < trail.len() {
@@ -54,6 +53,18 @@ fn refusals() {
     try_one(&[1i16, 0], 8, 100);
 }
 
+// An unknown placement in the first group, in a middle one, in the last, in two, after groups with nothing in them, in an open group, and where the plan is
+// short too.
+fn unknowns() {
+    try_one(&[3i16, 0, 1, 0, 2, 0], 2, 100);
+    try_one(&[1i16, 0, 2, -3, 0, 1, 0], 2, 100);
+    try_one(&[1i16, 0, 2, 0, 1, 3, 0], 2, 100);
+    try_one(&[1i16, 0, -3, 0, 4, 0], 2, 100);
+    try_one(&[0i16, 0, 9, 0], 1, 100);
+    try_one(&[1i16, 0, 9], 1, 100);
+    try_one(&[1i16, 0, 9, 0], 8, 100);
+}
+
 fn short_trail() {
     let mut plan = [9u8; 7];
     let mut trail = [9i16; 0];
@@ -65,5 +76,6 @@ fn main() {
     filings();
     stops();
     refusals();
+    unknowns();
     short_trail();
 }

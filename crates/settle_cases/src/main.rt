@@ -1,5 +1,5 @@
-// Settles document 01's filings, ties and chains of ties among them, and refused calls. Each line is the answer's number, its place, and the first seven
-// elements of the list, all 99 before the call.
+// Settles document 01's filings, ties and chains of ties among them, and refused calls. Each line is the answer's number, place, count and group, and the
+// first seven elements of the list, all 99 before the call.
 fn try_one(table: &[i16], n: usize) {
     let mut list = [99i16; 7];
     let answer = settle::settle(table, n, &mut list);
@@ -46,8 +46,19 @@ fn refusals() {
     try_one(&[0i16, 3, 0], 2);
 }
 
+// An unknown placement in the first group, in a middle one, in the last, in two, after groups with nothing in them, and where the list is short too.
+fn unknowns() {
+    try_one(&[3i16, 0, 1, 0, 2, 0], 2);
+    try_one(&[1i16, 0, 2, -3, 0, 1, 0], 2);
+    try_one(&[1i16, 0, 2, 0, 1, 3, 0], 2);
+    try_one(&[1i16, 0, -3, 0, 4, 0], 2);
+    try_one(&[0i16, 0, 9, 0], 1);
+    try_one(&[1i16, 0, 9, 0], 8);
+}
+
 fn main() {
     filings();
     ties();
     refusals();
+    unknowns();
 }

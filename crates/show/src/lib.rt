@@ -11,10 +11,12 @@ pub fn number(value: u64) {
     io::print_decimal(1, value);
 }
 
-// The number and the place.
+// Number, place, count and group.
 pub fn receipt(receipt: Receipt) {
     io::print_decimal(1, receipt.number as u64);
     number(receipt.place as u64);
+    number(receipt.count as u64);
+    number(receipt.clause.0 as u64);
 }
 
 fn entry(e: i16) {

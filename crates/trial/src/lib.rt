@@ -7,6 +7,7 @@ pub mod indexed;
 pub mod lists;
 pub mod random;
 pub mod readings;
+pub mod receipts;
 pub mod searched;
 pub mod settled;
 pub mod slow;

@@ -3,12 +3,15 @@ use super::formula::ROOM;
 use super::lists::at_most;
 use super::lists::part;
 use super::lists::same_entries;
+use super::receipts::plain;
+use super::receipts::refusal;
+use super::receipts::same_receipt;
 use super::slow::read;
+use receipt::Receipt;
 
 // What Read answers.
 pub struct Answer {
-    pub number: u32,
-    pub place: usize,
+    pub receipt: Receipt,
     pub n: usize,
     pub used: usize,
 }
@@ -19,12 +22,19 @@ pub struct Run {
     pub table: [i16; ROOM],
 }
 
-fn answered(number: u32, place: usize, n: usize, used: usize) -> Answer {
+fn was_read(n: usize, used: usize) -> Answer {
     Answer {
-        number,
-        place,
+        receipt: plain(16, 0, 0),
         n,
         used,
+    }
+}
+
+fn was_refused(receipt: Receipt) -> Answer {
+    Answer {
+        receipt,
+        n: 0,
+        used: 0,
     }
 }
 
@@ -35,12 +45,12 @@ pub fn expected(strip: &[u8], room: usize) -> Run {
     let slow = read(strip, &mut table[0..lent]);
     if slow.refused {
         return Run {
-            answer: answered(slow.number, slow.place, 0, 0),
+            answer: was_refused(refusal(slow.number, slow.place, slow.clause)),
             table: [9i16; ROOM],
         };
     }
     Run {
-        answer: answered(16, 0, slow.n, slow.used),
+        answer: was_read(slow.n, slow.used),
         table,
     }
 }
@@ -53,7 +63,7 @@ pub fn used_by(strip: &[u8]) -> usize {
 }
 
 fn same_answer(a: Answer, b: Answer) -> bool {
-    a.number == b.number && a.place == b.place && a.n == b.n && a.used == b.used
+    same_receipt(a.receipt, b.receipt) && a.n == b.n && a.used == b.used
 }
 
 pub fn same_run(a: Run, b: Run) -> bool {
@@ -67,7 +77,7 @@ pub fn same_run(a: Run, b: Run) -> bool {
 
 // Whether the filing was read back.
 pub fn is_filing(run: Run, table: &[i16], n: usize) -> bool {
-    if !same_answer(run.answer, answered(16, 0, n, table.len())) {
+    if !same_answer(run.answer, was_read(n, table.len())) {
         return false;
     }
     let back = run.table;

@@ -7,6 +7,8 @@ use super::lists::clear_entries;
 use super::lists::entry_at;
 use super::lists::same_entries;
 use super::lists::size;
+use super::receipts::plain;
+use super::receipts::same_receipt;
 use receipt::Receipt;
 
 // Plans and trails have so many elements, all 9 before a call.
@@ -36,15 +38,7 @@ pub fn emptied(receipt: Receipt, n: usize) -> Run {
 }
 
 pub fn ended(number: u32, count: u32) -> Receipt {
-    Receipt {
-        number,
-        place: 0,
-        count,
-    }
-}
-
-fn same_receipt(a: Receipt, b: Receipt) -> bool {
-    a.number == b.number && a.place == b.place && a.count == b.count
+    plain(number, 0, count)
 }
 
 pub fn same_run(a: Run, b: Run) -> bool {

@@ -7,12 +7,13 @@ use super::verdict::MAX_LITERALS;
 use super::verdict::MAX_VARIABLES;
 use super::writer::MAX_STRIP;
 
-// What is known after a byte: whether the strip is refused, with number and place; the command, its place and the bytes of its operand that are still to come; and
-// what was read.
+// What is known after a byte: whether the strip is refused, with number, place and clause (0 but for 5); the command, its place and the bytes of its operand that
+// are still to come; and what was read.
 pub struct Slow {
     pub refused: bool,
     pub number: u32,
     pub place: usize,
+    pub clause: usize,
     mark: u8,
     left: u8,
     value: usize,
@@ -46,6 +47,7 @@ impl Slow {
             refused: false,
             number: 0,
             place: 0,
+            clause: 0,
             mark: 0,
             left: 0,
             value: 0,
@@ -63,6 +65,12 @@ impl Slow {
         self.refused = true;
         self.number = number;
         self
+    }
+
+    // An unknown variable, in the clause that is open.
+    fn unknown(mut self) -> Slow {
+        self.clause = self.clauses;
+        self.refuse(5)
     }
 
     fn is_in_turn(self, mark: u8) -> bool {
@@ -108,7 +116,7 @@ impl Slow {
 
     fn entry(mut self, table: &mut [i16]) -> Slow {
         if self.value == 0 || self.n < self.value {
-            return self.refuse(5);
+            return self.unknown();
         }
         if MAX_LITERALS <= self.literals {
             return self.refuse(3);

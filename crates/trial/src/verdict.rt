@@ -1,8 +1,11 @@
-// Which tables are refused, with number and place, by counting each thing over the whole table.
+// Which tables are refused, with number, place and group, by counting each thing over the whole table.
 use super::lists::entry_at;
 use super::lists::more;
 use super::lists::part;
 use super::lists::size;
+use super::receipts::plain;
+use super::receipts::refusal;
+use receipt::Receipt;
 
 pub const MAX_VARIABLES: usize = 256;
 
@@ -10,13 +13,30 @@ pub const MAX_CLAUSES: usize = 512;
 
 pub const MAX_LITERALS: usize = 2048;
 
+// The clause is 0 but for number 5.
 pub enum Verdict {
     Passes,
-    Refused { number: u32, place: usize },
+    Refused {
+        number: u32,
+        place: usize,
+        clause: usize,
+    },
 }
 
-fn refused(number: u32, place: usize) -> Verdict {
-    Verdict::Refused { number, place }
+fn refused(number: u32) -> Verdict {
+    Verdict::Refused {
+        number,
+        place: 0,
+        clause: 0,
+    }
+}
+
+fn unknown(place: usize, clause: usize) -> Verdict {
+    Verdict::Refused {
+        number: 5,
+        place,
+        clause,
+    }
 }
 
 impl Verdict {
@@ -27,24 +47,21 @@ impl Verdict {
             Verdict::Refused {
                 number: _,
                 place: _,
+                clause: _,
             } => false,
         }
     }
 
-    // The receipt's number, which is `passed` where nothing is refused.
-    pub fn number(self, passed: u32) -> u32 {
+    // The receipt, whose number is `passed` where nothing is refused.
+    pub fn receipt(self, passed: u32) -> Receipt {
         let verdict = self;
         match verdict {
-            Verdict::Passes => passed,
-            Verdict::Refused { number, place: _ } => number,
-        }
-    }
-
-    pub fn place(self) -> usize {
-        let verdict = self;
-        match verdict {
-            Verdict::Passes => 0,
-            Verdict::Refused { number: _, place } => place,
+            Verdict::Passes => plain(passed, 0, 0),
+            Verdict::Refused {
+                number,
+                place,
+                clause,
+            } => refusal(number, place, clause),
         }
     }
 
@@ -54,7 +71,7 @@ impl Verdict {
         match verdict {
             Verdict::Passes => {
                 if room < need {
-                    refused(number, 0)
+                    refused(number)
                 } else {
                     Verdict::Passes
                 }
@@ -62,6 +79,7 @@ impl Verdict {
             Verdict::Refused {
                 number: _,
                 place: _,
+                clause: _,
             } => verdict,
         }
     }
@@ -95,6 +113,11 @@ fn first_unknown(list: &[i16], n: usize, zero_allowed: bool) -> usize {
     list.len()
 }
 
+// The clause that an index is in: one more than the zeros before it.
+fn clause_at(table: &[i16], i: usize) -> usize {
+    more(count(part(table, 0, i), true))
+}
+
 fn is_open(table: &[i16]) -> bool {
     let length = table.len();
     if length == 0 {
@@ -106,38 +129,39 @@ fn is_open(table: &[i16]) -> bool {
 // "Tables: 1, 2, 3, 4, 5"
 pub fn of_table(table: &[i16], n: usize) -> Verdict {
     if MAX_VARIABLES < n {
-        return refused(1, 0);
+        return refused(1);
     }
     if MAX_CLAUSES < count(table, true) {
-        return refused(2, 0);
+        return refused(2);
     }
     if MAX_LITERALS < count(table, false) {
-        return refused(3, 0);
+        return refused(3);
     }
     if is_open(table) {
-        return refused(4, 0);
+        return refused(4);
     }
-    let unknown = first_unknown(table, n, true);
-    if unknown < table.len() {
-        return refused(5, unknown);
+    let place = first_unknown(table, n, true);
+    if place < table.len() {
+        return unknown(place, clause_at(table, place));
     }
     Verdict::Passes
 }
 
 // "2 and 3 with the group added (each element of the list counts as an entry), 5 on the list (place u plus its index there), 23"
 fn of_clause(used: &[i16], n: usize, clause: &[i16], room: usize) -> Verdict {
-    if MAX_CLAUSES < more(count(used, true)) {
-        return refused(2, 0);
+    let number = clause_at(used, used.len());
+    if MAX_CLAUSES < number {
+        return refused(2);
     }
     if MAX_LITERALS < clause.len() || MAX_LITERALS - clause.len() < count(used, false) {
-        return refused(3, 0);
+        return refused(3);
     }
-    let unknown = first_unknown(clause, n, false);
-    if unknown < clause.len() {
-        return refused(5, std::num::wrapping_add_usize(used.len(), unknown));
+    let i = first_unknown(clause, n, false);
+    if i < clause.len() {
+        return unknown(std::num::wrapping_add_usize(used.len(), i), number);
     }
     if room <= clause.len() {
-        return refused(23, 0);
+        return refused(23);
     }
     Verdict::Passes
 }
@@ -145,7 +169,7 @@ fn of_clause(used: &[i16], n: usize, clause: &[i16], room: usize) -> Verdict {
 // "Add: 12, then 1 to 5 on the used part", and the rest.
 pub fn of_added(buffer: &[i16], used: usize, n: usize, clause: &[i16]) -> Verdict {
     if buffer.len() < used {
-        return refused(12, 0);
+        return refused(12);
     }
     let before = part(buffer, 0, used);
     let verdict = of_table(before, n);

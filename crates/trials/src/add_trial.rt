@@ -1,5 +1,6 @@
 // Add: group after group from an empty buffer gives the table that was written all at once, and Index of it gives each group back.
 use super::index_trial;
+use receipt::Receipt;
 use std::num::wrapping_add_usize;
 use trial::formula::Formula;
 use trial::formula::ROOM;
@@ -8,14 +9,14 @@ use trial::lists::entry_at;
 use trial::lists::part;
 use trial::lists::same_entries;
 use trial::random::room_of;
+use trial::receipts::same_receipt;
 use trial::tally::Tally;
 use trial::verdict::Verdict;
 use trial::verdict::of_added;
 
 // What Add answers.
 struct Answer {
-    number: u32,
-    place: usize,
+    receipt: Receipt,
     used: usize,
 }
 
@@ -29,16 +30,14 @@ struct Progress {
 
 fn answer_of(buffer: &mut [i16], used: usize, n: usize, clause: &[i16]) -> Answer {
     let answer = add::add(buffer, used, n, clause);
-    let receipt = answer.receipt();
     Answer {
-        number: receipt.number,
-        place: receipt.place,
+        receipt: answer.receipt(),
         used: answer.used(),
     }
 }
 
 fn is_right(answer: Answer, verdict: Verdict, used: usize, clause: &[i16]) -> bool {
-    if answer.number != verdict.number(15) || answer.place != verdict.place() {
+    if !same_receipt(answer.receipt, verdict.receipt(15)) {
         return false;
     }
     if verdict.passes() {
@@ -62,7 +61,7 @@ fn element(buffer: &mut [i16], table: &[i16], i: usize, n: usize, before: Progre
         used: if refused { before.used } else { answer.used },
         start: wrapping_add_usize(i, 1),
         refused,
-        tally: tally.judged(answer.number, right, table, n),
+        tally: tally.judged(answer.receipt.number, right, table, n),
     }
 }
 
@@ -106,7 +105,7 @@ fn aside(
     let after = run.buffer;
     let kept = verdict.passes() || same_entries(&after, &buffer);
     let right = is_right(run.answer, verdict, used, clause);
-    tally.judged(run.answer.number, right && kept, clause, n)
+    tally.judged(run.answer.receipt.number, right && kept, clause, n)
 }
 
 // Whether the used part of the buffer is that of the table, and the rest is untouched.

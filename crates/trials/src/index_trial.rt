@@ -6,6 +6,7 @@ use trial::indexed::UNTOUCHED;
 use trial::indexed::are_heads;
 use trial::lists::at_most;
 use trial::random::room_of;
+use trial::receipts::same_receipt;
 use trial::tally::Tally;
 use trial::verdict::MAX_CLAUSES;
 use trial::verdict::Verdict;
@@ -29,7 +30,7 @@ fn run_of(table: &[i16], n: usize, room: usize) -> Run {
 }
 
 fn is_right(table: &[i16], run: Run, verdict: Verdict) -> bool {
-    if run.receipt.number != verdict.number(17) || run.receipt.place != verdict.place() {
+    if !same_receipt(run.receipt, verdict.receipt(17)) {
         return false;
     }
     let heads = run.heads;

@@ -20,10 +20,8 @@ fn run_of(strip: &[u8], room: usize) -> Run {
     let mut table = [9i16; ROOM];
     let lent = at_most(room, ROOM);
     let reading = strip::read(strip, &mut table[0..lent]);
-    let receipt = reading.receipt();
     let answer = Answer {
-        number: receipt.number,
-        place: receipt.place,
+        receipt: reading.receipt(),
         n: reading.variables(),
         used: reading.used(),
     };
@@ -50,8 +48,8 @@ fn read(strip: &[u8], room: usize, whole: bool, table: &[i16], n: usize, tally: 
         show::bytes(strip);
         show::text(b"\n");
     }
-    let all = tally.judged(run.answer.number, right, table, n);
-    if run.answer.number == 16 {
+    let all = tally.judged(run.answer.receipt.number, right, table, n);
+    if run.answer.receipt.number == 16 {
         return all.measured(strip.len());
     }
     all

@@ -12,6 +12,8 @@ use trial::lists::same_entries;
 use trial::random::room_of;
 use trial::readings::expected;
 use trial::readings::is_filing;
+use trial::receipts::plain;
+use trial::receipts::same_receipt;
 use trial::tally::Tally;
 use trial::verdict::Verdict;
 use trial::writer::write_plain;
@@ -46,13 +48,10 @@ fn holds(strip: [u8; STRIP], wanted: &[u8]) -> bool {
 
 fn is_right(run: Run, verdict: Verdict, wanted: &[u8]) -> bool {
     let strip = run.strip;
-    if run.receipt.number != verdict.number(18) {
-        return false;
-    }
     if verdict.passes() {
-        return run.receipt.place == wanted.len() && holds(strip, wanted);
+        return same_receipt(run.receipt, plain(18, wanted.len(), 0)) && holds(strip, wanted);
     }
-    run.receipt.place == verdict.place() && holds(strip, &[0u8; 0])
+    same_receipt(run.receipt, verdict.receipt(0)) && holds(strip, &[0u8; 0])
 }
 
 // What was saved is read as the table that it was made of.
@@ -60,7 +59,7 @@ fn read_back(strip: &[u8], table: &[i16], n: usize, tally: Tally) -> Tally {
     let mut back = [9i16; ROOM];
     let reading = strip::read(strip, &mut back);
     let receipt = reading.receipt();
-    let same = receipt.number == 16
+    let same = same_receipt(receipt, plain(16, 0, 0))
         && reading.variables() == n
         && reading.used() == table.len()
         && same_entries(part(&back, 0, table.len()), table);
@@ -85,7 +84,7 @@ fn saved_again(strip: &[u8], tally: Tally) -> Tally {
     }
     let run = run_of(filing, reading.variables(), STRIP);
     let bytes = run.strip;
-    let same = run.receipt.number == 18 && run.receipt.place == strip.len() && holds(bytes, strip);
+    let same = same_receipt(run.receipt, plain(18, strip.len(), 0)) && holds(bytes, strip);
     tally.judged(run.receipt.number, same, filing, reading.variables())
 }
 

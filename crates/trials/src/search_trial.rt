@@ -1,5 +1,4 @@
 // Search beside the solver that tries all choices.
-use receipt::Receipt;
 use trial::formula::Formula;
 use trial::lists::at_most;
 use trial::random::room_of;
@@ -79,17 +78,8 @@ fn accepted(table: &[i16], formula: Formula, rooms: Rooms, tally: Tally) -> Tall
 
 fn refused(table: &[i16], n: usize, rooms: Rooms, verdict: Verdict, tally: Tally) -> Tally {
     let run = run_of(table, n, u32::MAX, rooms);
-    let receipt = Receipt {
-        number: verdict.number(0),
-        place: verdict.place(),
-        count: 0,
-    };
-    tally.judged(
-        run.receipt.number,
-        same_run(run, emptied(receipt, 0)),
-        table,
-        n,
-    )
+    let untouched = emptied(verdict.receipt(0), 0);
+    tally.judged(run.receipt.number, same_run(run, untouched), table, n)
 }
 
 pub fn tried(table: &[i16], formula: Formula, seed: &mut u64, tally: Tally) -> Tally {

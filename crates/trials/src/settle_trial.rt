@@ -4,6 +4,7 @@ use trial::formula::Formula;
 use trial::lists::at_most;
 use trial::lists::same_entries;
 use trial::random::room_of;
+use trial::receipts::same_receipt;
 use trial::settled::ROOM;
 use trial::settled::emptied;
 use trial::settled::is_dead_end;
@@ -25,21 +26,15 @@ fn run_of(table: &[i16], n: usize, room: usize) -> Run {
     Run { receipt, list }
 }
 
-fn is_refused(run: Run, verdict: Verdict) -> bool {
+fn is_untouched(run: Run) -> bool {
     let list = run.list;
     let untouched = emptied(0);
-    if !same_entries(&list, &untouched) {
-        return false;
-    }
-    run.receipt.number == verdict.number(0) && run.receipt.place == verdict.place()
+    same_entries(&list, &untouched)
 }
 
 fn is_accepted(table: &[i16], formula: Formula, run: Run) -> bool {
     let list = run.list;
     let number = run.receipt.number;
-    if run.receipt.place != 0 {
-        return false;
-    }
     match number {
         10 => is_dead_end(table, formula, list),
         13 => is_settled(table, formula, list),
@@ -47,14 +42,15 @@ fn is_accepted(table: &[i16], formula: Formula, run: Run) -> bool {
     }
 }
 
+// The number of an accepted call is for the solver to judge.
 fn is_right(table: &[i16], formula: Formula, run: Run, verdict: Verdict) -> bool {
-    if run.receipt.count != 0 {
+    if !same_receipt(run.receipt, verdict.receipt(run.receipt.number)) {
         return false;
     }
     if verdict.passes() {
         return is_accepted(table, formula, run);
     }
-    is_refused(run, verdict)
+    is_untouched(run)
 }
 
 // The tally with what a settled list says.

@@ -48,6 +48,10 @@ fn refused() {
     write(b"1 32767 0");
     write(b"1 -32768 0");
     write(b"2 1 0 2 -3 0");
+    write(b"2 3 0 1 0");
+    write(b"2 1 0 3 0 2 0");
+    write(b"1 0 0 9 0");
+    write(b"1 0 9");
 }
 
 // 32,768 bytes, and one more.
