@@ -4,14 +4,14 @@ use mathlib.Core.Bool.{false}
 use mathlib.Core.Logic.{inl, inr}
 use mathlib.Core.List.{List, [], _∷_, _++_}
 use mathlib.Core.Option.{Option, none, some}
-use Prim.Native.Nat.{ℕ, zero, suc, _+_, _<_, _≤_}
+use Prim.Native.Nat.{ℕ, _+_, _≤_}
 use native.Mathlib.Omega.{arith}
 use borrow.Author.Tests.{ltb-false, ne-eqb}
 use lib.Dec.{ltb}
 use lib.IntN.{ℤ, natAbs, pos as posℤ}
 use lib.ListN.{length, getD, take, length-append, List·getD-append}
 use lib.Seq.{length-take-le, take-append-add, take-append-le, getD-append-add}
-use Rattle.general.specs.Booleans.{bit, true-not-false, cond-ind}
+use Rattle.general.specs.Booleans.{true-not-false, cond-ind}
 use Rattle.general.specs.Search.{First, firstPlace, place-some}
 use Rattle.literal.specs.Literal.{maxClauses, maxLiterals}
 use Rattle.receipt.specs.declared.Checked.{Checked}
@@ -23,19 +23,12 @@ use Rattle.theory.specs.Calls.{AddCall, isWrong, listUnknown, unknownIn, addKno
 use Rattle.theory.specs.Table.{closes, zeros, nonzeros, endsOpen, check, Accepted}
 use Rattle.theory.specs.Unknown.{Encloses, UnknownInAdd, Names}
 use Rattle.theory.proofs.Heads.{entry-encloses}
-use Rattle.theory.proofs.Tables.{zeros-append, endsOpen-append, known-variable, accepted-closed}
+use Rattle.theory.proofs.Tables.{zeros-append, endsOpen-append, known-variable, accepted-closed, no-zeros-before}
 use Rattle.theory.proofs.Unknown.{check-unknown, none-named, refusal-names}
 
 -- an element that isn't wrong closes nothing
-entry-open : (n : ℕ) (e : ℤ) → isWrong n e ≡ false → closes e ≡ false
-entry-open n e h = ne-eqb (natAbs e) 0 (λ z. omega (arith, known-variable n (natAbs e) h .0))
-
--- so none before the first wrong one does
-none-closes : (g : List ℤ) (j : ℕ) → j ≤ length g → ((i : ℕ) → i < j → closes (getD g i (posℤ 0)) ≡ false) → zeros (take j g) ≡ 0
-unfolding zeros
-none-closes g zero l h = refl
-none-closes [] (suc j) l h = refl
-none-closes (e ∷ g) (suc j) l h = omega (arith, ap bit (h 0 (omega arith)), none-closes g j (omega arith) (λ i k. h (suc i) (omega arith)))
+not-wrong-open : (n : ℕ) (e : ℤ) → isWrong n e ≡ false → closes e ≡ false
+not-wrong-open n e h = ne-eqb (natAbs e) 0 (λ z. omega (arith, known-variable n (natAbs e) h .0))
 
 -- the table with the list and a closing 0, after a closed used part t
 module _ (n : ℕ) (t g : List ℤ) (closed : endsOpen false t ≡ false) (j : ℕ) (f : First (isWrong n) g j) where
@@ -53,7 +46,7 @@ module _ (n : ℕ) (t g : List ℤ) (closed : endsOpen false t ≡ false) (j : �
   zeros-before =
       let l : j ≤ length g = omega (arith, f .inside) in
       rw (take-append-add t (g ++ (posℤ 0 ∷ [])) j, take-append-le j g (posℤ 0 ∷ []) l, zeros-append)
-      (omega (arith, none-closes g j l (λ i k. entry-open n (getD g i (posℤ 0)) (f .earlier i k (posℤ 0)))))
+      (omega (arith, no-zeros-before g j l (λ i k. not-wrong-open n (getD g i (posℤ 0)) (f .earlier i k (posℤ 0)))))
 
   in-list : closes (getD g j (posℤ 1)) ≡ false → Encloses grown (zeros t + 1) (length t + j)
   in-list h = rw zeros-before at (entry-encloses grown (length t + j)

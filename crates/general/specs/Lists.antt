@@ -1,11 +1,12 @@
 -- Lists made from a function of the index, the lists that `map` makes, and lists made of parts.
-use mathlib.Core.Path.{_≡_, refl, ap, _∙_}
+use mathlib.Core.Path.{_≡_, refl, ap, sym, _∙_}
 use mathlib.Core.Logic.{⊎-elim}
-use mathlib.Core.List.{List, [], _∷_, _++_, map, List·Memᴰ, List·Memᴰ·head, List·Memᴰ·tail, List·Memᴰ·not-nil, List·Memᴰ·cases-cons}
+use mathlib.Core.List.{List, [], _∷_, _++_, map, append-assoc, List·Memᴰ, List·Memᴰ·head, List·Memᴰ·tail, List·Memᴰ·not-nil, List·Memᴰ·cases-cons}
 use Prim.Native.Nat.{ℕ, zero, suc, _+_, _-_, _≤_, _<_}
 use native.Mathlib.Decide.{ℕ-discrete as decEq}
 use native.Mathlib.Omega.{arith}
-use lib.ListN.{length, getD, take, drop, set, replicate}
+use lib.ListN.{length, getD, take, drop, set, replicate, length-append, length-drop, take-append-drop}
+use lib.Seq.{take-at}
 
 module _ {A : Type 0} (g : ℕ → A) where
   -- g at k, k + 1, .., n values in all
@@ -100,8 +101,15 @@ module _ {A : Type 0} (g : ℕ → A) where
   from-before k (suc n) x y (later b) =
       let r = from-before (suc k) n x y b in (r .0, r .1, omega (arith, r .2), r .3, omega (arith, r .4), r .5, r .6)
 
--- an element stored at the seam of two parts, and the rest of equal values
+-- the part before a later index, an element stored at the seam of two parts, and the rest of equal values
 module _ {A : Type 0} where
+  pub take-past : (i j : ℕ) (l b : List A) → j ≤ length l → drop i l ≡ b ++ drop j l → take j l ≡ take i l ++ b
+  take-past i j l b h e =
+      let x = take i l ++ b in
+      let q : l ≡ x ++ drop j l = sym (take-append-drop i l) ∙ ap (_++_ (take i l)) e ∙ sym (append-assoc (take i l) b (drop j l)) in
+      let k : length x ≡ j = omega (arith, ap length q, length-append x (drop j l), length-drop j l) in
+      ap (take j) q ∙ take-at x (drop j l) j k
+
   pub set-after : (d : ℕ) (e : A) (t l : List A) → d < length t → set (take (suc d) t ++ l) d e ≡ take d t ++ (e ∷ l)
   set-after d e [] l h = absurd (omega arith)
   set-after zero e (y ∷ t) l h = refl

@@ -1,14 +1,13 @@
 -- A2: what was read of a strip before an index, by its grammar; so a strip that is refused with 5 names the group that is open there.
 use mathlib.Core.Path.{_≡_, refl, ap, sym, subst, _∙_}
 use mathlib.Core.Bool.{true, false, _||_}
-use mathlib.Core.Logic.{⊎-elim}
-use mathlib.Core.List.{List, [], _∷_, _++_, append-assoc, append-nil, List·Memᴰ, List·Memᴰ·not-nil, List·Memᴰ·append-cases, List·Memᴰ·eq-of-singleton}
+use mathlib.Core.List.{List, [], _∷_, _++_, append-assoc, append-nil, List·Memᴰ, List·Memᴰ·not-nil}
 use Prim.Native.Nat.{ℕ, _+_, _-_, _≤_, _<_}
 use native.Mathlib.Omega.{arith}
 use lib.Dec.{eqb, ltb}
-use lib.ListN.{length, take, drop, length-append, length-drop, take-append-drop}
-use lib.Seq.{take-at}
+use lib.ListN.{length, take, drop, length-append}
 use Rattle.general.specs.Booleans.{true-not-false, cond-ind}
+use Rattle.general.specs.Lists.{take-past}
 use Rattle.literal.specs.declared.Literal.{Literal}
 use Rattle.literal.specs.declared.Literal.the-variants.{Pos, Neg}
 use Rattle.literal.specs.Literal.{var, maxVariables, maxClauses, maxLiterals}
@@ -25,7 +24,7 @@ use Rattle.theory.specs.Strip.{turnOf, same, nothingRead, entered, obey}
 use Rattle.theory.specs.Encoding.{Item, chapter, group, commandBytes, entryBytes, itemBytes, encode, groups}
 use Rattle.theory.specs.Unknown.{UnknownInStrip}
 use Rattle.theory.proofs.Encodings.{groups-append, last-encloses}
-use Rattle.theory.proofs.Tables.{known-variable, InRange}
+use Rattle.theory.proofs.Tables.{known-variable, InRange, ClauseInRange, empty-in-range, literal-last, clause-last, range-within}
 use Rattle.strip.proofs.Sound.{pending, ahead}
 
 -- the items of the whole strip: k and the literals d of the open group were read, the literals c and the items l are ahead
@@ -35,19 +34,6 @@ whole Outside k d c l = k ++ l
 whole Inside k d c l = k ++ (group (d ++ c) ∷ l)
 whole After k d c l = k
 
--- the literals of a clause are of variables from 1 to n, as those of a formula are
-abbrev Known : ℕ → Clause → Type 0
-Known n c = (l : Literal) → List·Memᴰ l c → (0 < var l) × (var l ≤ n)
-
-known-none : (n : ℕ) → Known n []
-known-none n l m = absurd (List·Memᴰ·not-nil m)
-
-known-more : (n : ℕ) (c : Clause) (x : Literal) → Known n c → (0 < var x) × (var x ≤ n) → Known n (c ++ (x ∷ []))
-known-more n c x h o l m = ⊎-elim (h l) (λ k. let q : l ≡ x = List·Memᴰ·eq-of-singleton k in rw q o) (List·Memᴰ·append-cases c m)
-
-known-last : (n : ℕ) (f : Formula) (d : Clause) → InRange n f → Known n d → InRange n (f ++ (d ∷ []))
-known-last n f d h o c l mc ml = ⊎-elim (λ k. h c l k ml) (λ k. let q : c ≡ d = List·Memᴰ·eq-of-singleton k in o l (rw q at ml)) (List·Memᴰ·append-cases f mc)
-
 module _ (s : List ℕ) where
   -- before index i, whatever is ahead
   pub record Behind (i : ℕ) (u : Turn) (p : Progress) : Type 0 where
@@ -56,11 +42,11 @@ module _ (s : List ℕ) where
     pub strip : (n : ℕ) (c : Clause) (l : List Item) → (same u Start ≡ false → n ≡ p .variables) → take i s ++ ahead u n c l ≡ encode n (whole u items clause c l)
     pub number : p .clauses ≡ length (groups items) + pending u
     pub known : (n : ℕ) → (same u Start ≡ false → n ≡ p .variables) → InRange n (groups items)
-    pub known-open : Known (p .variables) clause
+    pub known-open : ClauseInRange (p .variables) clause
 
   pub begun-behind : Behind 0 Start nothingRead
   unfolding groups
-  begun-behind = record { items = []; clause = []; strip = λ n c l h. refl; number = refl; known = λ n h c l m. absurd (List·Memᴰ·not-nil m); known-open = known-none 0 }
+  begun-behind = record { items = []; clause = []; strip = λ n c l h. refl; number = refl; known = λ n h c l m. absurd (List·Memᴰ·not-nil m); known-open = empty-in-range 0 }
 
   -- an entry at i that is wrong, in the group that is open
   open-clause : (i : ℕ) (p : Progress) → Behind i Inside p → (l : Literal) (r : List ℕ) → drop i s ≡ entryBytes (l ∷ []) ++ r →
@@ -74,46 +60,37 @@ module _ (s : List ℕ) where
     rest = r;
     before = w .strip (p .variables) [] [] (λ _. refl) ∙ rw (append-nil (w .clause));
     here = e;
-    known = record { low = λ c x mc mx. whole-known c x mc mx .0; high = λ c x mc mx. whole-known c x mc mx .1 };
+    known = range-within n (f ++ (w .clause ∷ [])) (clause-last n f (w .clause) items-known (w .known-open));
     wrong = b;
     number = w .number;
     encloses = λ o. rw (w .number) (last-encloses f (w .clause) l (with-entry o));
   }
     where
+      n : ℕ
+      n = p .variables
+
       f : Formula
       f = groups (w .items)
 
-      items-known : InRange (p .variables) f
-      items-known = w .known (p .variables) (λ _. refl)
+      items-known : InRange n f
+      items-known = w .known n (λ _. refl)
 
-      whole-known : InRange (p .variables) (f ++ (w .clause ∷ []))
-      whole-known = known-last (p .variables) f (w .clause) items-known (w .known-open)
-
+      -- with the wrong entry, where it isn't 0, all are of some variable
       with-entry : 0 < var l → (c : Clause) (x : Literal) → List·Memᴰ c (f ++ ((w .clause ++ (l ∷ [])) ∷ [])) → List·Memᴰ x c → 0 < var x
-      with-entry o c x mc mx = ⊎-elim
-          (λ k. items-known c x k mx .0)
-          (λ k.
-          let q : c ≡ w .clause ++ (l ∷ []) = List·Memᴰ·eq-of-singleton k in
-          ⊎-elim (λ j. w .known-open x j .0) (λ j. let e : x ≡ l = List·Memᴰ·eq-of-singleton j in rw e o) (List·Memᴰ·append-cases (w .clause) (rw q at mx)))
-          (List·Memᴰ·append-cases f mc)
+      with-entry o c x mc mx =
+          let clause-known : ClauseInRange (n + var l) (w .clause) = λ y m. let k = w .known-open y m in (k .0, omega (arith, k .1)) in
+          clause-last (n + var l) f (w .clause ++ (l ∷ [])) (λ d y md my. let k = items-known d y md my in (k .0, omega (arith, k .1)))
+          (literal-last (n + var l) (w .clause) l clause-known (o, omega arith)) c x mc mx .0
 
   -- what follows of a command from i to next that is obeyed, and of one that is refused with 5
   abbrev pub Follows : ℕ → ℕ → Obeyed → Type 0
   Follows i next (Goes q e) = Behind next (q .turn) q
   Follows i next (Refused why) = numberOf why ≡ 5 → UnknownInStrip s (namedClause why .0) i
 
-  -- what was read with it
   module _ (i next : ℕ) (long : next ≤ length s) where
-    taken-next : (b : List ℕ) → drop i s ≡ b ++ drop next s → take next s ≡ take i s ++ b
-    taken-next b bytes =
-        let x = take i s ++ b in
-        let e : s ≡ x ++ drop next s = sym (take-append-drop i s) ∙ ap (_++_ (take i s)) bytes ∙ sym (append-assoc (take i s) b (drop next s)) in
-        let k : length x ≡ next = omega (arith, ap length e, length-append x (drop next s), length-drop next s) in
-        ap (take next) e ∙ take-at x (drop next s) next k
-
-    -- and what is ahead of it
+    -- what was read with the command, and what is ahead of it
     past : (m : Mark) (v : ℕ) → drop i s ≡ commandBytes m v ++ drop next s → (r : List ℕ) → take next s ++ r ≡ take i s ++ (commandBytes m v ++ r)
-    past m v bytes r = ap (λ (x : List ℕ). x ++ r) (taken-next (commandBytes m v) bytes) ∙ append-assoc (take i s) (commandBytes m v) r
+    past m v bytes r = ap (λ (x : List ℕ). x ++ r) (take-past i next s (commandBytes m v) long bytes) ∙ append-assoc (take i s) (commandBytes m v) r
 
     module _ (p : Progress) where
       entered-follows : (l : Literal) (m : Mark) (v : ℕ) → drop i s ≡ commandBytes m v ++ drop next s →
@@ -128,7 +105,7 @@ module _ (s : List ℕ) where
             strip = λ n c k h. past m v bytes _ ∙ ap (_++_ (take i s)) (is c _) ∙ w .strip n (l ∷ c) k h ∙ rw (append-assoc (w .clause) (l ∷ []) c);
             number = w .number;
             known = w .known;
-            known-open = known-more (p .variables) (w .clause) l (w .known-open) (known-variable (p .variables) (var l) k);
+            known-open = literal-last (p .variables) (w .clause) l (w .known-open) (known-variable (p .variables) (var l) k);
           })
           (λ _ z. absurd (omega arith)))
 
@@ -140,7 +117,7 @@ module _ (s : List ℕ) where
         strip = λ n c l h. past Placements v bytes (itemBytes l) ∙ rw (h refl) (w .strip v [] l (λ z. absurd (true-not-false refl z)));
         number = w .number;
         known = λ n h. w .known n (λ z. absurd (true-not-false refl z));
-        known-open = known-none v;
+        known-open = empty-in-range v;
       })
       obey-follows Chapter v e bytes w = subst (λ (u : Turn). Behind next u p) (sym e) (record {
         items = w .items ++ (chapter v ∷ []);
@@ -148,7 +125,7 @@ module _ (s : List ℕ) where
         strip = λ n c l h. past Chapter v bytes _ ∙ w .strip n [] (chapter v ∷ l) h ∙ rw (append-assoc (w .items) (chapter v ∷ []) l);
         number = rw (groups-append (w .items) (chapter v ∷ []), append-nil (groups (w .items))) (w .number);
         known = rw (groups-append (w .items) (chapter v ∷ []), append-nil (groups (w .items))) (w .known);
-        known-open = known-none (p .variables);
+        known-open = empty-in-range (p .variables);
       })
       obey-follows Opens v e bytes w = cond-ind (Follows i next) _ _ (ltb (p .clauses) maxClauses) (λ _. record {
         items = w .items;
@@ -156,7 +133,7 @@ module _ (s : List ℕ) where
         strip = λ n c l h. past Opens v bytes _ ∙ w .strip n [] (group c ∷ l) h;
         number = omega (arith, w .number);
         known = w .known;
-        known-open = known-none (p .variables);
+        known-open = empty-in-range (p .variables);
       }) (λ _ z. absurd (omega arith))
       obey-follows Taken v e bytes w = entered-follows (Pos v) Taken v bytes (λ c r. refl) w
       obey-follows LeftOut v e bytes w = entered-follows (Neg v) LeftOut v bytes (λ c r. refl) w
@@ -165,8 +142,8 @@ module _ (s : List ℕ) where
         clause = [];
         strip = λ n c l h. past Closes v bytes _ ∙ w .strip n [] l h ∙ rw (append-nil (w .clause), append-assoc (w .items) (group (w .clause) ∷ []) l);
         number = rw (groups-append (w .items) (group (w .clause) ∷ []), length-append) (omega (arith, w .number));
-        known = λ n h. rw (groups-append (w .items) (group (w .clause) ∷ []), h refl) (known-last (p .variables) (groups (w .items)) (w .clause) (w .known (p .variables) (λ _. refl)) (w .known-open));
-        known-open = known-none (p .variables);
+        known = λ n h. rw (groups-append (w .items) (group (w .clause) ∷ []), h refl) (clause-last (p .variables) (groups (w .items)) (w .clause) (w .known (p .variables) (λ _. refl)) (w .known-open));
+        known-open = empty-in-range (p .variables);
       }
       obey-follows Ends v e bytes w = record {
         items = w .items;
@@ -174,5 +151,5 @@ module _ (s : List ℕ) where
         strip = λ n c l h. past Ends v bytes _ ∙ w .strip n [] [] h ∙ rw (append-nil (w .items));
         number = w .number;
         known = w .known;
-        known-open = known-none (p .variables);
+        known-open = empty-in-range (p .variables);
       }

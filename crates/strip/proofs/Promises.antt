@@ -18,6 +18,7 @@ use Rattle.theory.specs.Strip.{nothingRead, Decoding, maxStrip, readStrip}
 use Rattle.theory.specs.Encoding.{Item, groups, tableOf, StripWithin, Bytes}
 use Rattle.theory.specs.Unknown.{UnknownInStrip, Names}
 use Rattle.theory.specs.Calls.{over, ReadCall, readCall}
+use Rattle.theory.proofs.Tables.{range-within}
 use Rattle.strip.specs.Decoding.{called}
 use Rattle.strip.proofs.Ends.{Ended, answered, too-long}
 use Rattle.strip.proofs.Named.{strip-names}
@@ -84,7 +85,7 @@ module _ (s : List ℕ) (t : List ℤ) (r : Reading) (t′ : List ℤ) (is : cal
             variables = k .variables;
             clauses = omega (arith, k .clauses);
             literals = omega (arith, k .literals);
-            known = record { low = λ c x mc mx. k .known c x mc mx .0; high = λ c x mc mx. k .known c x mc mx .1 };
+            known = range-within n (groups (l .items)) (k .known);
           },
           a .0 ∙ ap length (l .table),
           a .1,

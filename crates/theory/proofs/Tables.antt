@@ -2,15 +2,15 @@
 use mathlib.Core.Path.{_≡_, refl, ap, sym, _∙_}
 use mathlib.Core.Bool.{Bool, true, false, not, _||_, cond}
 use mathlib.Core.Logic.{_⊎_, ⊎-elim, _↔_, _≢_}
-use mathlib.Core.List.{List, [], _∷_, _++_, map, List·Memᴰ, List·Memᴰ·head, List·Memᴰ·tail, List·Memᴰ·not-nil, List·Memᴰ·cases-cons}
+use mathlib.Core.List.{List, [], _∷_, _++_, map, List·Memᴰ, List·Memᴰ·head, List·Memᴰ·tail, List·Memᴰ·not-nil, List·Memᴰ·cases-cons, List·Memᴰ·append-cases, List·Memᴰ·eq-of-singleton}
 use mathlib.Core.Option.{Option, none, some}
 use Prim.Native.Nat.{ℕ, zero, suc, _+_, _<_, _≤_}
 use native.Mathlib.Omega.{arith}
 use lib.Dec.{ltb, eqb, eqb·suc-zero}
 use lib.IntN.{ℤ, negsuc, natAbs, pos as posℤ}
-use lib.ListN.{length}
+use lib.ListN.{length, getD, take}
 use borrow.Author.Tests.{ltb-false, le-ltb, eqb-true, eqb-false, ne-eqb, not-false}
-use Rattle.general.specs.Booleans.{true-not-false, bit-not}
+use Rattle.general.specs.Booleans.{bit, true-not-false, bit-not}
 use Rattle.general.specs.Search.{firstPlace, place-none, none-placed}
 use Rattle.literal.specs.declared.Literal.{Literal}
 use Rattle.literal.specs.declared.Literal.the-variants.{Pos, Neg}
@@ -137,6 +137,22 @@ push-range n k o b (d ∷ f) h c l mc ml = ⊎-elim
     (λ m. h c l (List·Memᴰ·tail m) ml)
     (List·Memᴰ·cases-cons mc)
 
+-- a clause, one literal more at its end, and one clause more at the end of a formula
+abbrev pub ClauseInRange : ℕ → Clause → Type 0
+ClauseInRange n c = (l : Literal) → List·Memᴰ l c → (0 < var l) × (var l ≤ n)
+
+pub empty-in-range : (n : ℕ) → ClauseInRange n []
+empty-in-range n l m = absurd (List·Memᴰ·not-nil m)
+
+pub literal-last : (n : ℕ) (c : Clause) (x : Literal) → ClauseInRange n c → (0 < var x) × (var x ≤ n) → ClauseInRange n (c ++ (x ∷ []))
+literal-last n c x h o l m = ⊎-elim (h l) (λ k. let q : l ≡ x = List·Memᴰ·eq-of-singleton k in rw q o) (List·Memᴰ·append-cases c m)
+
+pub clause-last : (n : ℕ) (f : Formula) (d : Clause) → InRange n f → ClauseInRange n d → InRange n (f ++ (d ∷ []))
+clause-last n f d h o c l mc ml = ⊎-elim (λ k. h c l k ml) (λ k. let q : c ≡ d = List·Memᴰ·eq-of-singleton k in o l (rw q at ml)) (List·Memᴰ·append-cases f mc)
+
+pub range-within : (n : ℕ) (f : Formula) → InRange n f → Within n f
+range-within n f h = record { low = λ c l mc ml. h c l mc ml .0; high = λ c l mc ml. h c l mc ml .1 }
+
 clauses-range : (n : ℕ) (t : List ℤ) → ((e : ℤ) → List·Memᴰ e t → natAbs e ≤ n) → InRange n (clauses t)
 unfolding clauses
 clauses-range n [] h c l mc ml = absurd (List·Memᴰ·not-nil mc)
@@ -150,10 +166,7 @@ clauses-range n (negsuc p ∷ t) h c l mc ml =
     push-range n (Neg (suc p)) (omega arith) (h (negsuc p) (List·Memᴰ·head refl)) (clauses t) (clauses-range n t (λ e m. h e (List·Memᴰ·tail m))) c l mc ml
 
 pub accepted-within : (n : ℕ) (t : List ℤ) → Accepted n t → Within n (clauses t)
-accepted-within n t e = record { low = λ c l mc ml. range c l mc ml .0; high = λ c l mc ml. range c l mc ml .1 }
-  where
-    range : InRange n (clauses t)
-    range = clauses-range n t (accepted-sizes n t e .known)
+accepted-within n t e = range-within n (clauses t) (clauses-range n t (accepted-sizes n t e .known))
 
 -- a table after a table ----------------------------------------------------------------------------------------------
 
@@ -186,3 +199,10 @@ no-zeros [] h = refl
 no-zeros (e ∷ g) h =
     let z : natAbs e ≢ 0 = λ q. omega (arith, h e (List·Memᴰ·head refl)) in
     rw (ne-eqb (natAbs e) 0 z, no-zeros g (λ x m. h x (List·Memᴰ·tail m)))
+
+-- where the first j elements are entries, no zero is among them
+pub no-zeros-before : (g : List ℤ) (j : ℕ) → j ≤ length g → ((i : ℕ) → i < j → closes (getD g i (posℤ 0)) ≡ false) → zeros (take j g) ≡ 0
+unfolding zeros
+no-zeros-before g zero l h = refl
+no-zeros-before [] (suc j) l h = refl
+no-zeros-before (e ∷ g) (suc j) l h = omega (arith, ap bit (h 0 (omega arith)), no-zeros-before g j (omega arith) (λ i k. h (suc i) (omega arith)))
