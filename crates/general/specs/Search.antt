@@ -1,9 +1,9 @@
 -- The first element of a list that passes a test, and what it says that there is one, or none.
-use mathlib.Core.Path.{_≡_, refl, ap, _∙_}
-use mathlib.Core.Bool.{Bool, true, false, _||_, cond}
+use mathlib.Core.Path.{_≡_, refl, ap, sym, _∙_}
+use mathlib.Core.Bool.{Bool, true, false, _||_, cond, or-false, or-assoc}
 use mathlib.Core.Logic.{_⊎_, inl, inr, ⊎-elim}
 use mathlib.Core.Option.{Option, none, some}
-use mathlib.Core.List.{List, [], _∷_, List·Memᴰ, List·Memᴰ·head, List·Memᴰ·tail, List·Memᴰ·not-nil, List·Memᴰ·cases-cons}
+use mathlib.Core.List.{List, [], _∷_, _++_, List·Memᴰ, List·Memᴰ·head, List·Memᴰ·tail, List·Memᴰ·not-nil, List·Memᴰ·cases-cons}
 use Prim.Native.Nat.{ℕ, zero, suc, _+_, _<_}
 use native.Mathlib.Omega.{arith}
 use lib.ListN.{length, getD}
@@ -73,6 +73,12 @@ module _ {A : Type 0} (test : A → Bool) where
   unfoldable pub any : List A → Bool
   any [] = false
   any (x ∷ l) = test x || any l
+
+  -- one element more at the end
+  pub any-last : (l : List A) (x : A) → any (l ++ (x ∷ [])) ≡ (any l || test x)
+  unfolding any
+  any-last [] x = or-false (test x)
+  any-last (y ∷ l) x = ap (_||_ (test y)) (any-last l x) ∙ sym (or-assoc (test y) (any l) (test x))
 
   -- what the answer says: none passes, or an element that passes
   abbrev pub Finds : List A → Option A → Type 0

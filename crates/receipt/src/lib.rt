@@ -24,6 +24,7 @@ pub enum Fault {
     TableShort,
     StripTooLong,
     StripShort,
+    UnmentionedVariable,
 }
 
 impl Fault {
@@ -50,6 +51,7 @@ impl Fault {
             Fault::TableShort => 23,
             Fault::StripTooLong => 24,
             Fault::StripShort => 25,
+            Fault::UnmentionedVariable => 26,
         }
     }
 

@@ -1,7 +1,7 @@
 -- Tables and formulas are two faces of one filing, so are strips and their items; how long a saved strip is, and that it is a strip within the limits.
 use mathlib.Core.Path.{_≡_, refl, ap, sym, _∙_}
 use mathlib.Core.Bool.{Bool, true, false}
-use mathlib.Core.List.{List, [], _∷_, _++_, map, List·Memᴰ, List·Memᴰ·head, List·Memᴰ·tail}
+use mathlib.Core.List.{List, [], _∷_, _++_, map, append-assoc, List·Memᴰ, List·Memᴰ·head, List·Memᴰ·tail}
 use Prim.Native.Nat.{ℕ, zero, suc, _+_, _-_, _*_, _/_, _%_, _<_, _≤_}
 use native.Mathlib.Nat.{add-zero, zero-add}
 use native.Mathlib.Omega.{arith}
@@ -13,11 +13,12 @@ use Rattle.literal.specs.declared.Literal.the-variants.{Pos, Neg}
 use Rattle.literal.specs.Literal.{var, entryOf, maxVariables}
 use Rattle.theory.specs.declared.Mark.the-variants.{Placements, Opens, Taken, LeftOut, Closes, Ends}
 use Rattle.theory.specs.Formula.{Clause, Formula, clauses}
+use Rattle.theory.specs.Mentions.{Mentioned}
 use Rattle.theory.specs.Heads.{head, headsFrom, headsOf, headAt}
 use Rattle.theory.specs.Unknown.{Encloses}
 use Rattle.theory.specs.Strip.{byteOf, maxStrip}
 use Rattle.theory.specs.Table.{zeros, nonzeros, endsOpen, Accepted}
-use Rattle.theory.specs.Encoding.{Item, chapter, group, entryBytes, itemBytes, encode, groups, tableOf, entries, savedStrip, savedLength, maxSaved, StripWithin, Bytes}
+use Rattle.theory.specs.Encoding.{Item, chapter, group, entryBytes, itemBytes, encode, groups, tableOf, entries, savedStrip, savedLength, maxSaved, StripLimits, StripWithin, Bytes}
 use Rattle.theory.proofs.Tables.{first-clause, accepted-closed, accepted-sizes, accepted-within}
 use Rattle.theory.proofs.Heads.{clauses-zeros, heads-zeros}
 
@@ -50,6 +51,17 @@ unfolding clauses tableOf
 clauses-table [] h = refl
 clauses-table (c ∷ f) h =
     row-clauses c (tableOf f) (λ l. h c l (List·Memᴰ·head refl)) ∙ ap (_∷_ c) (clauses-table f (λ d l m. h d l (List·Memᴰ·tail m)))
+
+-- a formula after a formula
+pub tables-append : (f g : Formula) → tableOf (f ++ g) ≡ tableOf f ++ tableOf g
+unfolding tableOf
+tables-append [] g = refl
+tables-append (c ∷ f) g = rw (tables-append f g, append-assoc (map entryOf c) (posℤ 0 ∷ tableOf f) (tableOf g))
+
+pub entries-append : (f g : Formula) → entries (f ++ g) ≡ entries f + entries g
+unfolding entries
+entries-append [] g = omega arith
+entries-append (c ∷ f) g = omega (arith, entries-append f g)
 
 -- the head of the last clause of a formula's table: it starts after the clauses before it
 last-head : (f : Formula) (s : ℕ) (c : Clause) → headAt (headsFrom s (f ++ (c ∷ []))) (length f) ≡ head (s + length (tableOf f)) (length c)
@@ -202,10 +214,13 @@ module _ (n : ℕ) (t : List ℤ) (a : Accepted n t) where
       let few = accepted-sizes n t a .variables in
       word-first (byteOf Placements) n (itemBytes (map group (clauses t))) (omega arith) few (items-bytes (clauses t) (λ c m l k. omega (arith, few, accepted-within n t a .high c l m k)))
 
-  -- it is within the limits, of n placements and the groups of the table
-  pub saved-within : StripWithin (savedStrip n t) n (map group (clauses t))
+  pub saved-table : tableOf (groups (map group (clauses t))) ≡ t
+  saved-table = rw (groups-only (clauses t)) (table-clauses _ t (accepted-closed n t a))
+
+  -- it is within document 01's limits, of n placements and the groups of the table
+  saved-limits : StripLimits (savedStrip n t) n (map group (clauses t))
   unfolding savedStrip
-  saved-within = let w = accepted-sizes n t a in record {
+  saved-limits = let w = accepted-sizes n t a in record {
     is = refl;
     short = saved-short n t a;
     variables = w .variables;
@@ -213,3 +228,7 @@ module _ (n : ℕ) (t : List ℤ) (a : Accepted n t) where
     literals = rw (groups-only (clauses t), entries-nonzeros _ t (accepted-closed n t a)) (w .literals);
     known = rw (groups-only (clauses t)) (accepted-within n t a);
   }
+
+  -- and with every placement named within the limits
+  pub saved-within : Mentioned n t → StripWithin (savedStrip n t) n (map group (clauses t))
+  saved-within h = record { limits = saved-limits; mentioned = rw saved-table h }

@@ -29,6 +29,7 @@ pub mod Splits
 pub mod AtRest
 pub mod Guard
 pub mod Tables
+pub mod Mentions
 pub mod Demands
 pub mod Paths
 pub mod Filings

@@ -11,7 +11,7 @@ use Rattle.general.specs.Search.{firstPlace}
 use Rattle.literal.specs.declared.Literal.{Literal}
 use Rattle.literal.specs.declared.Literal.the-variants.{Pos, Neg}
 use Rattle.literal.specs.Literal.{maxVariables, maxClauses, maxLiterals, maxTable}
-use Rattle.receipt.specs.declared.Fault.the-variants.{TooManyClauses, TooManyLiterals, PlanShort, TrailShort, HeadsShort, ReceiptShort, UsedLengthWrong, StateShort, TableShort, StripShort}
+use Rattle.receipt.specs.declared.Fault.the-variants.{TooManyClauses, TooManyLiterals, PlanShort, TrailShort, HeadsShort, ReceiptShort, UsedLengthWrong, StateShort, TableShort, StripShort, UnmentionedVariable}
 use Rattle.receipt.specs.declared.Refusal.{Refusal}
 use Rattle.receipt.specs.declared.Checked.{Checked}
 use Rattle.receipt.specs.declared.Checked.the-variants.{Passed, Refused}
@@ -39,7 +39,8 @@ use Rattle.theory.specs.Table.{closes, zeros, nonzeros, refused, isUnkno
 use Rattle.theory.specs.Propagation.{Settled, dead, rest, settle}
 use Rattle.theory.specs.Tree.{Result}
 use Rattle.theory.specs.Search.{search, planOf, trailOf}
-use Rattle.theory.specs.Strip.{readStrip}
+use Rattle.theory.specs.Mentions.{mentionsAll}
+use Rattle.theory.specs.Strip.{Decoding, readStrip}
 use Rattle.theory.specs.Encoding.{savedStrip}
 
 -- the first n elements of a list, and "Elements not named are never changed"
@@ -170,8 +171,11 @@ pub record ReadCall : Type 0 where
   pub table : List ℤ
 
 -- the table is written only where the whole strip passes
+abbrev pub readAs : Decoding → List ℤ → ReadCall
+readAs d t = record { answer = d .reading; table = over (length (d .table)) (d .table) t }
+
 unfoldable pub readCall : List ℕ → List ℤ → ReadCall
-readCall s t = let d = readStrip s (length t) in record { answer = d .reading; table = over (length (d .table)) (d .table) t }
+readCall s t = readAs (readStrip s (length t)) t
 
 -- Save ------------------------------------------------------------------------------------------------------------
 
@@ -191,9 +195,9 @@ savedCall b s =
 
 abbrev pub saveChecked : Checked → ℕ → List ℤ → List ℕ → SaveCall
 saveChecked (Refused r) n t s = saveRefused r s
-saveChecked Passed n t s = savedCall (savedStrip n t) s
+saveChecked Passed n t s = cond (mentionsAll n t) (savedCall (savedStrip n t) s) (saveRefused (refusal UnmentionedVariable 0) s)
 
--- "Turned away: 1 to 5 as for any table, then 25, strip room short."
+-- "Turned away: 1 to 5 as for any table, then 25, strip room short."; 26 "after 5 and before 25" (A3)
 unfoldable pub saveCall : ℕ → List ℤ → List ℕ → SaveCall
 saveCall n t s = saveChecked (check n t) n t s
 

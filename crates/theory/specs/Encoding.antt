@@ -5,12 +5,13 @@ use mathlib.Core.List.{List, [], _∷_, _++_, map}
 use Prim.Native.Nat.{ℕ, _+_, _*_, _/_, _%_, _≤_, _<_}
 use lib.Dec.{eqb}
 use lib.IntN.{ℤ, pos}
-use lib.ListN.{length, getD}
+use lib.ListN.{length, getD, take}
 use Rattle.literal.specs.declared.Literal.the-variants.{Pos, Neg}
 use Rattle.literal.specs.Literal.{entryOf, maxVariables, maxClauses, maxLiterals}
 use Rattle.theory.specs.declared.Mark.{Mark}
 use Rattle.theory.specs.declared.Mark.the-variants.{Placements, Chapter, Opens, Taken, LeftOut, Closes, Ends}
 use Rattle.theory.specs.Formula.{Clause, Formula, clauses, Within}
+use Rattle.theory.specs.Mentions.{Mentioned}
 use Rattle.theory.specs.Strip.{byteOf, operandBytes, maxStrip}
 
 -- what stands between the placements and the end: a chapter with its number, or a group
@@ -77,8 +78,8 @@ Unchaptered s = (n : ℕ) × (f : Formula) × (s ≡ encode n (map group f))
 
 -- Limits ----------------------------------------------------------------------------------------------------------
 
--- a strip within the limits, of n placements and these chapters and groups
-pub record StripWithin (s : List ℕ) (n : ℕ) (l : List Item) : Type 0 where
+-- a strip within document 01's limits, of n placements and these chapters and groups
+pub record StripLimits (s : List ℕ) (n : ℕ) (l : List Item) : Type 0 where
   pub is : s ≡ encode n l
   -- "over 16,384 bytes" it is too long
   pub short : length s ≤ maxStrip
@@ -89,6 +90,19 @@ pub record StripWithin (s : List ℕ) (n : ℕ) (l : List Item) : Type 0 where
   pub literals : entries (groups l) ≤ maxLiterals
   -- an operand of 54 and 4C is "a placement"
   pub known : Within n (groups l)
+
+-- A3: "a strip counts as within the limits only if it keeps" the rule that it "must name every declared placement"
+pub record StripWithin (s : List ℕ) (n : ℕ) (l : List Item) : Type 0 where
+  pub limits : StripLimits s n l
+  pub mentioned : Mentioned n (tableOf (groups l))
+
+-- A3, 26 "with the end mark's place": up to and with the end mark at i the strip is within document 01's limits, and a placement is not named
+pub record UnmentionedInStrip (s : List ℕ) (i : ℕ) : Type 0 where
+  pub variables : ℕ
+  pub items : List Item
+  pub limits : StripLimits (take (i + 1) s) variables items
+  pub mark : getD s i 0 ≡ byteOf Ends
+  pub unmentioned : ¬ Mentioned variables (tableOf (groups items))
 
 -- a strip is of bytes
 abbrev pub Bytes : List ℕ → Type 0

@@ -10,7 +10,7 @@ use Rattle.general.specs.Search.{find}
 use Rattle.literal.specs.declared.Literal.{Literal}
 use Rattle.literal.specs.declared.Literal.the-variants.{Pos, Neg}
 use Rattle.literal.specs.Literal.{var, entryOf, maxVariables, maxClauses, maxLiterals}
-use Rattle.receipt.specs.declared.Fault.the-variants.{TooManyVariables, TooManyClauses, TooManyLiterals, UnknownMark, CutStrip, OutOfTurn, TableShort, StripTooLong}
+use Rattle.receipt.specs.declared.Fault.the-variants.{TooManyVariables, TooManyClauses, TooManyLiterals, UnknownMark, CutStrip, OutOfTurn, TableShort, StripTooLong, UnmentionedVariable}
 use Rattle.receipt.specs.declared.Refusal.{Refusal}
 use Rattle.receipt.specs.declared.Reading.{Reading}
 use Rattle.receipt.specs.declared.Reading.the-variants as reading
@@ -26,6 +26,7 @@ use Rattle.theory.specs.declared.Obeyed.{Obeyed}
 use Rattle.theory.specs.declared.Obeyed.the-variants.{Goes, Refused}
 use Rattle.theory.specs.declared.Stored.{Stored}
 use Rattle.theory.specs.declared.Stored.the-variants.{Nothing, Element}
+use Rattle.theory.specs.Mentions.{mentionsAll}
 
 -- Commands ----------------------------------------------------------------------------------------------------------
 
@@ -117,17 +118,21 @@ entered p l =
     (Goes (progress Inside (p .variables) (p .clauses) (p .literals + 1)) (Element (entryOf l)))
     (Refused TooManyLiterals))
 
+-- the end mark: "26, unnamed placement, in reading at the end mark" (document 02, A3), unless it may stand here
+abbrev pub ended : Progress → Bool → Obeyed
+ended p may = cond may (Goes (progress After (p .variables) (p .clauses) (p .literals)) Nothing) (Refused UnmentionedVariable)
+
 -- what a command with operand v does: limits are counted over the whole filing, "2 at the 513th opening", "Chapters don't change the table",
--- "entries and closings each need an element"
-unfoldable pub obey : Progress → ℕ → Mark → Obeyed
-obey p v Placements = cond (ltb maxVariables v) (Refused TooManyVariables) (Goes (progress Outside v (p .clauses) (p .literals)) Nothing)
-obey p v Chapter = Goes p Nothing
-obey p v Opens =
+-- "entries and closings each need an element"; may says whether the end mark may stand here
+unfoldable pub obey : Progress → Bool → ℕ → Mark → Obeyed
+obey p may v Placements = cond (ltb maxVariables v) (Refused TooManyVariables) (Goes (progress Outside v (p .clauses) (p .literals)) Nothing)
+obey p may v Chapter = Goes p Nothing
+obey p may v Opens =
     cond (ltb (p .clauses) maxClauses) (Goes (progress Inside (p .variables) (p .clauses + 1) (p .literals)) Nothing) (Refused TooManyClauses)
-obey p v Taken = entered p (Pos v)
-obey p v LeftOut = entered p (Neg v)
-obey p v Closes = Goes (progress Outside (p .variables) (p .clauses) (p .literals)) (Element (pos 0))
-obey p v Ends = Goes (progress After (p .variables) (p .clauses) (p .literals)) Nothing
+obey p may v Taken = entered p (Pos v)
+obey p may v LeftOut = entered p (Neg v)
+obey p may v Closes = Goes (progress Outside (p .variables) (p .clauses) (p .literals)) (Element (pos 0))
+obey p may v Ends = ended p may
 
 -- The whole strip ---------------------------------------------------------------------------------------------------
 
@@ -153,22 +158,35 @@ module _ (s : List ℕ) (room : ℕ) where
   onward go i t (Goes p e) = storing (go p) i t e
   onward go i t (Refused why) = notRead (refusal why i)
 
-  abbrev pub follow : (ℕ → Progress → List ℤ → Decoding) → ℕ → Progress → List ℤ → Command → Decoding
-  follow go i p t (command.Command m v next) = onward (go next) i t (obey p v m)
-  follow go i p t (command.Refused f) = notRead f
-
   abbrev pub finish : Progress → List ℤ → Decoding
   finish p t = record { reading = ending (length s) p (length t); table = cond (same (p .turn) After) t [] }
+
+-- whether the end mark may stand after the table of so many placements that was read
+abbrev pub EndRule : Type 0
+EndRule = ℕ → List ℤ → Bool
+
+module _ (rule : EndRule) (s : List ℕ) (room : ℕ) where
+  abbrev pub follow : (ℕ → Progress → List ℤ → Decoding) → ℕ → Progress → List ℤ → Command → Decoding
+  follow go i p t (command.Command m v next) = onward s room (go next) i t (obey p (rule (p .variables) t) v m)
+  follow go i p t (command.Refused f) = notRead f
 
   -- command by command, with fuel for k - 1 commands
   unfoldable pub readFrom : ℕ → ℕ → Progress → List ℤ → Decoding
   readFrom zero i p t = notRead (refusal CutStrip i)
-  readFrom (suc k) i p t = cond (ltb i (length s)) (follow (readFrom k) i p t (commandAt s i (p .turn))) (finish p t)
+  readFrom (suc k) i p t = cond (ltb i (length s)) (follow (readFrom k) i p t (commandAt s i (p .turn))) (finish s room p t)
 
 -- "Strips: 24 first, place 0"
 abbrev pub maxStrip : ℕ
 maxStrip = 16384
 
 -- the reading of a strip with room for so many elements: each command takes a byte, so fuel of one more than the length is enough
-unfoldable pub readStrip : List ℕ → ℕ → Decoding
-readStrip s room = cond (ltb maxStrip (length s)) (notRead (refusal StripTooLong 0)) (readFrom s room (suc (length s)) 0 nothingRead [])
+unfoldable pub readBy : EndRule → List ℕ → ℕ → Decoding
+readBy rule s room = cond (ltb maxStrip (length s)) (notRead (refusal StripTooLong 0)) (readFrom rule s room (suc (length s)) 0 nothingRead [])
+
+-- "A strip must name every declared placement in at least one entry." (document 02, A3)
+abbrev pub readStrip : List ℕ → ℕ → Decoding
+readStrip s room = readBy mentionsAll s room
+
+-- document 01's reading, as it was before A3: the end mark may stand after every table
+abbrev pub readFreely : List ℕ → ℕ → Decoding
+readFreely s room = readBy (λ n t. true) s room
