@@ -68,7 +68,7 @@ same-refl After = refl
 
 -- a command at an index ---------------------------------------------------------------------------------------------
 
--- a fault of a command by itself: 23 is the room's, and 24 the whole strip's
+-- a fault of a command, and neither the room's, 23, nor the whole strip's, 24
 abbrev pub OfCommand : Fault → Type 0
 OfCommand why = (numberOf why ≢ numberOf TableShort) × (numberOf why ≢ numberOf StripTooLong)
 
@@ -82,14 +82,14 @@ module _ (s : List ℕ) (i : ℕ) where
 
   abbrev pub Says : Turn → Command → Type 0
   Says t (command.Command m v next) = Stands t m v next
-  Says t (command.Refused f) = (f .place ≡ i) × OfCommand (f .fault) × (numberOf (f .fault) ≢ 5)
+  Says t (command.Refused f) = (f .place ≡ i) × (20 ≤ numberOf (f .fault)) × (numberOf (f .fault) ≤ 22)
 
   pub command-says : (t : Turn) → Says t (commandAt s i t)
   unfolding commandAt
   command-says t = go (markOf (getD s i 0)) refl
     where
       go : (o : Option Mark) → markOf (getD s i 0) ≡ o → Says t (commandOf s i t o)
-      go none q = (refl, (λ z. omega arith, λ z. omega arith), λ z. omega arith)
+      go none q = (refl, omega arith, omega arith)
       go (some m) q = cond-ind (Says t) _ _ (same t (turnOf m))
           (λ a. cond-ind (Says t) _ _ (leb (i + 1 + operandBytes m) (length s))
           (λ b. record {
@@ -99,8 +99,8 @@ module _ (s : List ℕ) (i : ℕ) where
             further = refl;
             long = leb-true (i + 1 + operandBytes m) (length s) b;
           })
-          (λ b. (refl, (λ z. omega arith, λ z. omega arith), λ z. omega arith)))
-          (λ a. (refl, (λ z. omega arith, λ z. omega arith), λ z. omega arith))
+          (λ b. (refl, omega arith, omega arith)))
+          (λ a. (refl, omega arith, omega arith))
 
   pub command-stands : {t : Turn} {m : Mark} {v next : ℕ} → command.Command m v next ≡ commandAt s i t → Stands t m v next
   command-stands {t = t} e = rw (← e) at (command-says t)

@@ -12,7 +12,7 @@ use borrow.Author.Tests.{ltb-true, ltb-false}
 use lib.Dec.{ltb}
 use lib.IntN.{ℤ}
 use lib.ListN.{length, length-append, drop-of-length-le}
-use Rattle.general.specs.Booleans.{cond-ind}
+use Rattle.general.specs.Booleans.{true-not-false, cond-ind}
 use Rattle.literal.specs.Literal.{maxTable}
 use Rattle.receipt.specs.declared.Fault.the-variants.{CutStrip, TableShort, StripTooLong}
 use Rattle.receipt.specs.declared.Refusal.{Refusal}
@@ -29,15 +29,16 @@ use Rattle.theory.specs.declared.Stored.{Stored}
 use Rattle.theory.specs.declared.Stored.the-variants.{Nothing, Element}
 use Rattle.theory.specs.declared.Obeyed.{Obeyed}
 use Rattle.theory.specs.declared.Obeyed.the-variants as obeyed
-use Rattle.theory.specs.Strip.{turnOf, same, nothingRead, obey, Decoding, storing, onward, follow, finish, readFrom, commandAt, maxStrip, readStrip}
+use Rattle.theory.specs.Mentions.{mentionsAll, Mentioned}
+use Rattle.theory.specs.Strip.{turnOf, same, nothingRead, obey, Decoding, storing, onward, follow, finish, readFrom, commandAt, maxStrip, readBy, readStrip}
 use Rattle.theory.specs.Encoding.{tableOf, entries}
 use Rattle.reader.proofs.Commands.{same-turn, Says, command-says, command-bytes}
-use Rattle.strip.proofs.Sound.{Sound, begun-sound, elements, with, Left, Keeps, obey-keeps}
+use Rattle.strip.proofs.Sound.{Sound, begun-sound, elements, with, Ending, Left, Keeps, obey-keeps}
 
 module _ (s : List ℕ) (room : ℕ) where
   -- from index i on, with t read before
   abbrev pub Ended : ℕ → Progress → List ℤ → Reading → List ℤ → Type 0
-  Ended i p t (Read n u) T = (u ≡ length T) × (u ≤ room) × (length s ≤ maxStrip) × Left s i (p .turn) p t n T
+  Ended i p t (Read n u) T = (u ≡ length T) × (u ≤ room) × (length s ≤ maxStrip) × Left s i (p .turn) p t n T × Ending (p .turn) n T
   Ended i p t (Refused f) T =
       (T ≡ []) × (f .place ≤ maxStrip) × (maxTable ≤ room → numberOf (f .fault) ≢ numberOf TableShort) × (length s ≤ maxStrip → numberOf (f .fault) ≢ numberOf StripTooLong)
 
@@ -65,32 +66,37 @@ module _ (s : List ℕ) (room : ℕ) where
             variables = λ q. refl;
             allows = record { variables = d .variables; clauses = omega (arith, d .clauses); literals = omega (arith, d .literals); known = λ c l m. absurd (List·Memᴰ·not-nil m) };
           }),
+          λ q. absurd (true-not-false e q),
         )
         go false e = (refl, short, λ w z. omega arith, λ w z. omega arith)
 
     -- after a command, which the strip from next on goes on from
-    module _ (k next : ℕ) (ih : (q : Progress) (t′ : List ℤ) → Sound q (length t′) → length t′ ≤ room → Ends next q t′ (readFrom s room k next q t′)) where
-      carried : (q : Progress) (t′ : List ℤ) → ((n : ℕ) (T : List ℤ) → Left s next (q .turn) q t′ n T → Left s i (p .turn) p t n T) →
+    module _ (k next : ℕ) (ih : (q : Progress) (t′ : List ℤ) → Sound q (length t′) → length t′ ≤ room → Ends next q t′ (readFrom mentionsAll s room k next q t′)) where
+      -- what is left before the command, from what is left after it
+      abbrev Back : Progress → List ℤ → Type 0
+      Back q t′ = (n : ℕ) (T : List ℤ) → Left s next (q .turn) q t′ n T → Left s i (p .turn) p t n T × (Ending (q .turn) n T → Ending (p .turn) n T)
+
+      carried : (q : Progress) (t′ : List ℤ) → Back q t′ →
           (x : Decoding) → Ends next q t′ x → Ends i p t x
       carried q t′ back x = go (x .reading)
         where
           go : (r : Reading) → Ended next q t′ r (x .table) → Ended i p t r (x .table)
-          go (Read n u) e = (e .0, e .1, short, back n (x .table) (e .3))
+          go (Read n u) e = let k = back n (x .table) (e .3) in (e .0, e .1, short, k .0, k .1 (e .4))
           go (Refused f) e = e
 
       stored : (q : Progress) (e : Stored) → Sound q (length t + elements e) →
-          ((n : ℕ) (T : List ℤ) → Left s next (q .turn) q (with t e) n T → Left s i (p .turn) p t n T) → Ends i p t (storing s room (readFrom s room k next q) i t e)
-      stored q Nothing g back = carried q t back (readFrom s room k next q t) (ih q t (rw add-zero at g) fits)
+          Back q (with t e) → Ends i p t (storing s room (readFrom mentionsAll s room k next q) i t e)
+      stored q Nothing g back = carried q t back (readFrom mentionsAll s room k next q t) (ih q t (rw add-zero at g) fits)
       stored q (Element x) g back = cond-ind (Ends i p t) _ _ (ltb (length t) room)
-          (λ b. carried q (t ++ (x ∷ [])) back (readFrom s room k next q (t ++ (x ∷ [])))
+          (λ b. carried q (t ++ (x ∷ [])) back (readFrom mentionsAll s room k next q (t ++ (x ∷ [])))
           (ih q (t ++ (x ∷ [])) (rw (length-append t (x ∷ [])) g) (omega (arith, length-append t (x ∷ []), ltb-true (length t) room b))))
           (λ b. (refl, placed, λ w z. omega (arith, ltb-false (length t) room b, g .elements, g .clauses, g .literals), λ w z. omega arith))
 
-      went : (u : Turn) → p .turn ≡ u → (o : Obeyed) → Keeps s i next p t u o → Ends i p t (onward s room (readFrom s room k next) i t o)
-      went u e (obeyed.Goes q x) g = stored q x (g .0) (λ n T a. subst (λ (u : Turn). Left s i u p t n T) (sym e) (g .1 n T a))
+      went : (u : Turn) → p .turn ≡ u → (o : Obeyed) → Keeps s i next p t u o → Ends i p t (onward s room (readFrom mentionsAll s room k next) i t o)
+      went u e (obeyed.Goes q x) g = stored q x (g .0) (subst (λ (u : Turn). (n : ℕ) (T : List ℤ) → Left s next (q .turn) q (with t x) n T → Left s i u p t n T × (Ending (q .turn) n T → Ending u n T)) (sym e) (g .1))
       went u e (obeyed.Refused why) g = (refl, placed, λ w. g .0, λ w. g .1)
 
-  read-ends : length s ≤ maxStrip → (k i : ℕ) (p : Progress) (t : List ℤ) → Sound p (length t) → i ≤ length s → length t ≤ room → Ends i p t (readFrom s room k i p t)
+  read-ends : length s ≤ maxStrip → (k i : ℕ) (p : Progress) (t : List ℤ) → Sound p (length t) → i ≤ length s → length t ≤ room → Ends i p t (readFrom mentionsAll s room k i p t)
   unfolding readFrom
   read-ends short zero i p t d h fits = (refl, placed short i p t d h fits, λ w z. omega arith, λ w z. omega arith)
   read-ends short (suc k) i p t d h fits =
@@ -98,18 +104,22 @@ module _ (s : List ℕ) (room : ℕ) where
       (λ l. followed (read-ends short k) (commandAt s i (p .turn)) (command-says s i (p .turn)))
       (λ l. finish-ends short i p t d h fits (ltb-false i (length s) l))
     where
-      followed : ((j : ℕ) (q : Progress) (t′ : List ℤ) → Sound q (length t′) → j ≤ length s → length t′ ≤ room → Ends j q t′ (readFrom s room k j q t′)) →
-          (c : Command) → Says s i (p .turn) c → Ends i p t (follow s room (readFrom s room k) i p t c)
+      followed : ((j : ℕ) (q : Progress) (t′ : List ℤ) → Sound q (length t′) → j ≤ length s → length t′ ≤ room → Ends j q t′ (readFrom mentionsAll s room k j q t′)) →
+          (c : Command) → Says s i (p .turn) c → Ends i p t (follow mentionsAll s room (readFrom mentionsAll s room k) i p t c)
       followed ih (command.Command m v next) c =
-          went short i p t d h fits k next (λ q t′ d′. ih next q t′ d′ (c .long)) (turnOf m) (c .turn) (obey p v m) (obey-keeps s i next p t d m v (c .turn) (command-bytes s i c))
-      followed ih (command.Refused f) c = (refl, omega (arith, c .0), λ w. c .1 .0, λ w. c .1 .1)
+          went short i p t d h fits k next (λ q t′ d′. ih next q t′ d′ (c .long)) (turnOf m) (c .turn) (obey p (mentionsAll (p .variables) t) v m) (obey-keeps s i next p t d m v (c .turn) (command-bytes s i c))
+      followed ih (command.Refused f) c = (refl, omega (arith, c .0), λ w z. omega (arith, c .2), λ w z. omega (arith, c .2))
 
   -- the whole strip
   pub answered : Ended 0 nothingRead [] (readStrip s room .reading) (readStrip s room .table)
-  unfolding readStrip
+  unfolding readBy
   answered = cond-ind (Ends 0 nothingRead []) _ _ (ltb maxStrip (length s))
       (λ b. (refl, omega arith, λ w z. omega arith, λ w z. omega (arith, ltb-true maxStrip (length s) b)))
       (λ b. read-ends (ltb-false maxStrip (length s) b) (suc (length s)) 0 nothingRead [] begun-sound (omega arith) (omega arith))
+
+  -- what was read names every placement
+  pub read-mentioned : (n u : ℕ) → readStrip s room .reading ≡ Read n u → Mentioned n (readStrip s room .table)
+  read-mentioned n u e = let a : Ended 0 nothingRead [] (Read n u) (readStrip s room .table) = rw e at answered in a .4 refl
 
   pub refusal-bound : (f : Refusal) → readStrip s room .reading ≡ Refused f → f .place ≤ maxStrip
   refusal-bound f e = let a : Ended 0 nothingRead [] (Refused f) (readStrip s room .table) = rw e at answered in a .1

@@ -1,9 +1,10 @@
 pub mod Sound
 pub mod Behind
-pub mod Named
+pub mod Receipts
 pub mod Ends
 pub mod Encoded
 pub mod Reached
 pub mod Decodings
 pub mod Accepted
+pub mod Before
 pub mod Promises

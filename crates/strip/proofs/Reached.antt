@@ -1,16 +1,16 @@
--- The reading loop: reading on from where it stands, with the numbers that it keeps and the table in the first cells, reads the whole strip.
+-- The reading loop: reading on from where it stands, with the numbers that it keeps, the table in the first cells and the placements that it names, reads the whole strip.
 use mathlib.Core.Path.{_≡_, refl, _∙_}
 use mathlib.Core.Bool.{Bool, true, false, cond}
-use mathlib.Core.List.{List, []}
+use mathlib.Core.List.{List, [], _∷_, _++_}
 use Prim.Native.Nat.{ℕ, zero, suc, _+_, _<_, _≤_}
 use native.Mathlib.Nat.{add-zero}
 use native.Mathlib.Numerals.{add-one}
 use native.Mathlib.Omega.{arith}
 use borrow.Author.Tests.{lt-ltb, le-ltb}
 use lib.IntN.{ℤ}
-use lib.ListN.{length, take, set, length-set}
+use lib.ListN.{length, take, set, replicate, length-set}
 use lib.Seq.{length-take-le, take-suc-set}
-use Rattle.literal.specs.Literal.{maxTable}
+use Rattle.literal.specs.Literal.{maxVariables, maxTable}
 use Rattle.receipt.specs.declared.Fault.{Fault}
 use Rattle.receipt.specs.declared.Fault.the-variants.{CutStrip, TableShort}
 use Rattle.receipt.specs.declared.Refusal.{Refusal}
@@ -24,26 +24,31 @@ use Rattle.theory.specs.declared.Command.the-variants as command
 use Rattle.theory.specs.declared.Progress.{Progress}
 use Rattle.theory.specs.declared.Stored.{Stored}
 use Rattle.theory.specs.declared.Stored.the-variants.{Nothing, Element}
+use Rattle.theory.specs.declared.Obeyed.{Obeyed}
 use Rattle.theory.specs.declared.Obeyed.the-variants as obeyed
-use Rattle.theory.specs.Strip.{same, nothingRead, commandAt, obey, Decoding, notRead, ending, storing, onward, follow, readFrom, maxStrip, readStrip}
+use Rattle.theory.specs.Mentions.{mentionsAll}
+use Rattle.theory.specs.Strip.{same, nothingRead, commandAt, obey, Decoding, notRead, ending, storing, onward, follow, readFrom, maxStrip, readBy, readStrip}
+use Rattle.mentions.specs.Noted.{Noted}
+use Rattle.mentions.proofs.Noting.{noted-none}
 use Rattle.reader.proofs.Commands.{Stands, command-stands, command-bytes}
 use Rattle.strip.proofs.Sound.{Sound, begun-sound, elements, obey-keeps}
 
 module _ (s : List ℕ) (room : ℕ) where
   -- the loop's invariant
-  pub record Reached (at used : ℕ) (p : Progress) (cells : List ℤ) : Type 0 where
+  pub record Reached (at used : ℕ) (p : Progress) (cells : List ℤ) (mentioned : List Bool) : Type 0 where
     pub short : length s ≤ maxStrip
     pub sound : Sound p used
     pub long : length cells ≡ maxTable
+    pub noted : Noted mentioned (take used cells)
     pub fuel : ℕ
     pub enough : length s ≤ at + fuel
-    pub rest : readFrom s room (suc fuel) at p (take used cells) ≡ readStrip s room
+    pub rest : readFrom mentionsAll s room (suc fuel) at p (take used cells) ≡ readStrip s room
 
-  pub begun : length s ≤ maxStrip → (cells : List ℤ) → length cells ≡ maxTable → Reached 0 0 nothingRead cells
-  unfolding readStrip
-  begun h cells l = record { short = h; sound = begun-sound; long = l; fuel = length s; enough = omega arith; rest = rw (le-ltb maxStrip (length s) h) }
+  pub begun : length s ≤ maxStrip → (cells : List ℤ) → length cells ≡ maxTable → Reached 0 0 nothingRead cells (replicate (suc maxVariables) false)
+  unfolding readBy
+  begun h cells l = record { short = h; sound = begun-sound; long = l; noted = noted-none; fuel = length s; enough = omega arith; rest = rw (le-ltb maxStrip (length s) h) }
 
-module _ {s : List ℕ} {room at used : ℕ} {p : Progress} {cells : List ℤ} (a : Reached s room at used p cells) where
+module _ {s : List ℕ} {room at used : ℕ} {p : Progress} {cells : List ℤ} {mentioned : List Bool} (a : Reached s room at used p cells mentioned) where
   -- the elements in use fit the cells
   in-cells : used ≤ length cells
   in-cells = omega (arith, a .sound .elements, a .sound .clauses, a .sound .literals, a .long)
@@ -61,7 +66,7 @@ module _ {s : List ℕ} {room at used : ℕ} {p : Progress} {cells : List ℤ} (
       in-use true = refl
       in-use false = refl
 
-  followed : at < length s → follow s room (readFrom s room (a .fuel)) at p (take used cells) (commandAt s at (p .turn)) ≡ readStrip s room
+  followed : at < length s → follow mentionsAll s room (readFrom mentionsAll s room (a .fuel)) at p (take used cells) (commandAt s at (p .turn)) ≡ readStrip s room
   unfolding readFrom
   followed l = rw (lt-ltb at (length s) l) at (a .rest)
 
@@ -69,13 +74,14 @@ module _ {s : List ℕ} {room at used : ℕ} {p : Progress} {cells : List ℤ} (
   no-command l f e = rw (← e) at (followed l)
 
 -- a command to be obeyed there
-pub record Commanded (s : List ℕ) (room at used : ℕ) (p : Progress) (cells : List ℤ) (m : Mark) (v next : ℕ) : Type 0 where
-  pub reached : Reached s room at used p cells
+pub record Commanded (s : List ℕ) (room at used : ℕ) (p : Progress) (cells : List ℤ) (mentioned : List Bool) (m : Mark) (v next : ℕ) : Type 0 where
+  pub reached : Reached s room at used p cells mentioned
   pub inside : at < length s
   pub command : command.Command m v next ≡ commandAt s at (p .turn)
 
-module _ {s : List ℕ} {room at used : ℕ} {p : Progress} {cells : List ℤ} {m : Mark} {v next : ℕ} (c : Commanded s room at used p cells m v next) where
-  abbrev a : Reached s room at used p cells
+module _ {s : List ℕ} {room at used : ℕ} {p : Progress} {cells : List ℤ} {mentioned : List Bool} {m : Mark} {v next : ℕ}
+    (c : Commanded s room at used p cells mentioned m v next) where
+  abbrev a : Reached s room at used p cells mentioned
   a = c .reached
 
   stands : Stands s at (p .turn) m v next
@@ -84,42 +90,50 @@ module _ {s : List ℕ} {room at used : ℕ} {p : Progress} {cells : List ℤ} {
   pub further : at < next
   further = omega (arith, stands .further)
 
-  obeying : onward s room (readFrom s room (a .fuel) next) at (take used cells) (obey p v m) ≡ readStrip s room
+  -- what the command does
+  abbrev pub done : Obeyed
+  done = obey p (mentionsAll (p .variables) (take used cells)) v m
+
+  obeying : onward s room (readFrom mentionsAll s room (a .fuel) next) at (take used cells) done ≡ readStrip s room
   obeying = rw (← c .command) at (followed a (c .inside))
 
-  pub not-obeyed : (why : Fault) → obeyed.Refused why ≡ obey p v m → notRead (refusal why at) ≡ readStrip s room
+  pub not-obeyed : (why : Fault) → obeyed.Refused why ≡ done → notRead (refusal why at) ≡ readStrip s room
   not-obeyed why e = rw (← e) at obeying
 
-  module _ {q : Progress} {e : Stored} (g : obeyed.Goes q e ≡ obey p v m) where
+  module _ {q : Progress} {e : Stored} (g : obeyed.Goes q e ≡ done) where
     sound : Sound q (used + elements e)
     sound =
         let d : Sound p (length (take used cells)) = rw (used-length a) (a .sound) in
         let k = rw (← g) at (obey-keeps s at next p (take used cells) d m v (stands .turn) (command-bytes s at stands)) in
         rw (used-length a) at (k .0)
 
-    storing-rest : storing s room (readFrom s room (a .fuel) next q) at (take used cells) e ≡ readStrip s room
+    storing-rest : storing s room (readFrom mentionsAll s room (a .fuel) next q) at (take used cells) e ≡ readStrip s room
     storing-rest = rw (← g) at obeying
 
     -- with the cells as they are then
-    reached : (cells′ : List ℤ) → length cells′ ≡ maxTable → readFrom s room (a .fuel) next q (take (used + elements e) cells′) ≡ readStrip s room →
-        Reached s room next (used + elements e) q cells′
-    reached cells′ long = go (a .fuel) (a .enough)
+    reached : (cells′ : List ℤ) → length cells′ ≡ maxTable → (mentioned′ : List Bool) → Noted mentioned′ (take (used + elements e) cells′) →
+        readFrom mentionsAll s room (a .fuel) next q (take (used + elements e) cells′) ≡ readStrip s room → Reached s room next (used + elements e) q cells′ mentioned′
+    reached cells′ long mentioned′ noted = go (a .fuel) (a .enough)
       where
-        go : (k : ℕ) → length s ≤ at + k → readFrom s room k next q (take (used + elements e) cells′) ≡ readStrip s room → Reached s room next (used + elements e) q cells′
+        go : (k : ℕ) → length s ≤ at + k → readFrom mentionsAll s room k next q (take (used + elements e) cells′) ≡ readStrip s room →
+            Reached s room next (used + elements e) q cells′ mentioned′
         go zero n r = absurd (omega (arith, c .inside))
-        go (suc k) n r = record { short = a .short; sound = sound; long = long; fuel = k; enough = omega (arith, further); rest = r }
+        go (suc k) n r = record { short = a .short; sound = sound; long = long; noted = noted; fuel = k; enough = omega (arith, further); rest = r }
 
-  pub kept : {q : Progress} → obeyed.Goes q Nothing ≡ obey p v m → Reached s room next used q cells
-  kept g = rw add-zero at (reached g cells (a .long) (rw add-zero (storing-rest g)))
+  pub kept : {q : Progress} → obeyed.Goes q Nothing ≡ done → Reached s room next used q cells mentioned
+  kept g = rw add-zero at (reached g cells (a .long) mentioned (rw add-zero (a .noted)) (rw add-zero (storing-rest g)))
 
-  module _ {q : Progress} {x : ℤ} (g : obeyed.Goes q (Element x) ≡ obey p v m) where
+  module _ {q : Progress} {x : ℤ} (g : obeyed.Goes q (Element x) ≡ done) where
     pub no-room : room ≤ used → notRead (refusal TableShort at) ≡ readStrip s room
     no-room h = rw (le-ltb (length (take used cells)) room (omega (arith, used-length a))) at (storing-rest g)
 
     pub has-cell : used < maxTable
     has-cell = let d = sound g in omega (arith, d .elements, d .clauses, d .literals)
 
-    pub stored : used < room → Reached s room next (used + 1) q (set cells used x)
-    stored h = reached g (set cells used x) (length-set cells used x ∙ a .long)
-        (rw (add-one, take-suc-set cells used x (omega (arith, has-cell, a .long)))
+    one-more : take (used + 1) (set cells used x) ≡ take used cells ++ (x ∷ [])
+    one-more = rw (add-one, take-suc-set cells used x (omega (arith, has-cell, a .long)))
+
+    pub stored : used < room → (mentioned′ : List Bool) → Noted mentioned′ (take used cells ++ (x ∷ [])) → Reached s room next (used + 1) q (set cells used x) mentioned′
+    stored h mentioned′ noted = reached g (set cells used x) (length-set cells used x ∙ a .long) mentioned′ (rw one-more noted)
+        (rw one-more
         (rw (lt-ltb (length (take used cells)) room (omega (arith, used-length a))) at (storing-rest g)))

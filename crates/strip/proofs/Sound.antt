@@ -1,9 +1,9 @@
 -- What a command that is obeyed keeps: the numbers stay within the limits and count the elements that are stored, and what is left of the strip after it,
 -- by its grammar, is what was left before it without the command.
-use mathlib.Core.Path.{_≡_, refl, subst, _∙_}
-use mathlib.Core.Bool.{false, _||_}
+use mathlib.Core.Path.{_≡_, refl, ap, sym, subst, _∙_}
+use mathlib.Core.Bool.{true, false, _||_}
 use mathlib.Core.Logic.{⊎-elim}
-use mathlib.Core.List.{List, [], _∷_, _++_, append-assoc, List·Memᴰ·not-nil, List·Memᴰ·cases-cons}
+use mathlib.Core.List.{List, [], _∷_, _++_, append-assoc, append-nil, List·Memᴰ·not-nil, List·Memᴰ·cases-cons}
 use Prim.Native.Nat.{ℕ, _+_, _≤_}
 use native.Mathlib.Omega.{arith}
 use borrow.Author.Tests.{ltb-true, ltb-false}
@@ -24,6 +24,7 @@ use Rattle.theory.specs.declared.Stored.the-variants.{Nothing, Element}
 use Rattle.theory.specs.declared.Obeyed.{Obeyed}
 use Rattle.theory.specs.declared.Obeyed.the-variants.{Goes, Refused}
 use Rattle.theory.specs.Formula.{Clause, Formula}
+use Rattle.theory.specs.Mentions.{mentionsAll, Mentioned}
 use Rattle.theory.specs.Strip.{turnOf, same, nothingRead, entered, obey}
 use Rattle.theory.specs.Encoding.{Item, chapter, group, commandBytes, entryBytes, itemBytes, encode, groups, tableOf, entries, Bytes}
 use Rattle.theory.proofs.Tables.{known-variable, InRange, push-range}
@@ -74,6 +75,10 @@ pub record Allows (u : ℕ) (n c l : ℕ) (f : Formula) : Type 0 where
   pub literals : l + entries f ≤ maxLiterals
   pub known : InRange n f
 
+-- where the end mark is still ahead, it may stand after the table T of n variables
+abbrev pub Ending : Turn → ℕ → List ℤ → Type 0
+Ending u n T = same u After ≡ false → Mentioned n T
+
 module _ (s : List ℕ) where
   -- from index i on, with t read before, to the table T of n variables
   pub record Left (i : ℕ) (u : Turn) (p : Progress) (t : List ℤ) (n : ℕ) (T : List ℤ) : Type 0 where
@@ -86,7 +91,8 @@ module _ (s : List ℕ) where
 
   -- what obeying a mark at index i says of the strip from next on
   abbrev pub Keeps : ℕ → ℕ → Progress → List ℤ → Turn → Obeyed → Type 0
-  Keeps i next p t u (Goes q e) = Sound q (length t + elements e) × ((n : ℕ) (T : List ℤ) → Left next (q .turn) q (with t e) n T → Left i u p t n T)
+  Keeps i next p t u (Goes q e) =
+      Sound q (length t + elements e) × ((n : ℕ) (T : List ℤ) → Left next (q .turn) q (with t e) n T → Left i u p t n T × (Ending (q .turn) n T → Ending u n T))
   Keeps i next p t u (Refused why) = OfCommand why
 
 closed-range : (n : ℕ) (f : Formula) → InRange n f → InRange n ([] ∷ f)
@@ -104,75 +110,96 @@ module _ (s : List ℕ) (i next : ℕ) (p : Progress) (t : List ℤ) (d : Sound 
         record { variables = d .variables; clauses = d .clauses; literals = omega (arith, ltb-true (p .literals) maxLiterals k); elements = omega (arith, rw e at (d .elements)) },
         λ n T a.
             let v = known-variable (p .variables) (var l) b in
-            record {
-              clause = l ∷ a .clause;
-              items = a .items;
-              strip = λ y. c y (a .clause) _ (a .strip y);
-              table = a .table ∙ append-assoc t (entryOf l ∷ []) _;
-              variables = a .variables;
-              allows = record {
-                variables = a .allows .variables;
-                clauses = a .allows .clauses;
-                literals = omega (arith, a .allows .literals);
-                known = push-range n l (v .0) (rw (a .variables refl) (v .1)) (a .clause ∷ groups (a .items)) (a .allows .known);
-              };
-            },
+            (
+              record {
+                clause = l ∷ a .clause;
+                items = a .items;
+                strip = λ y. c y (a .clause) _ (a .strip y);
+                table = a .table ∙ append-assoc t (entryOf l ∷ []) _;
+                variables = a .variables;
+                allows = record {
+                  variables = a .allows .variables;
+                  clauses = a .allows .clauses;
+                  literals = omega (arith, a .allows .literals);
+                  known = push-range n l (v .0) (rw (a .variables refl) (v .1)) (a .clause ∷ groups (a .items)) (a .allows .known);
+                };
+              },
+              λ w. w,
+            ),
       ))
       (λ k. (λ z. omega arith, λ z. omega arith)))
 
-  pub obey-keeps : (m : Mark) (v : ℕ) → p .turn ≡ turnOf m → (Bytes s → drop i s ≡ commandBytes m v ++ drop next s) → Keeps s i next p t (turnOf m) (obey p v m)
+  pub obey-keeps : (m : Mark) (v : ℕ) → p .turn ≡ turnOf m → (Bytes s → drop i s ≡ commandBytes m v ++ drop next s) →
+      Keeps s i next p t (turnOf m) (obey p (mentionsAll (p .variables) t) v m)
   unfolding obey entryBytes itemBytes groups tableOf entries
   obey-keeps Placements v e c = cond-ind (Keeps s i next p t Start) _ _ (ltb maxVariables v)
       (λ b. (λ z. omega arith, λ z. omega arith))
       (λ b. (
         record { variables = ltb-false maxVariables v b; clauses = d .clauses; literals = d .literals; elements = omega (arith, rw e at (d .elements)) },
-        λ n T a. record {
-          clause = [];
-          items = a .items;
-          strip = λ y. c y ∙ rw (a .strip y, a .variables refl);
-          table = a .table;
-          variables = λ q. absurd (true-not-false refl q);
-          allows = a .allows;
-        },
+        λ n T a. (
+          record {
+            clause = [];
+            items = a .items;
+            strip = λ y. c y ∙ rw (a .strip y, a .variables refl);
+            table = a .table;
+            variables = λ q. absurd (true-not-false refl q);
+            allows = a .allows;
+          },
+          λ w. w,
+        ),
       ))
   obey-keeps Chapter v e c = (
     record { variables = d .variables; clauses = d .clauses; literals = d .literals; elements = omega (arith, d .elements) },
-    λ n T a. let o = subst (λ (u : Turn). Left s next u p t n T) e a in record {
-      clause = [];
-      items = chapter v ∷ o .items;
-      strip = λ y. c y ∙ rw (o .strip y);
-      table = o .table;
-      variables = o .variables;
-      allows = o .allows;
-    },
+    λ n T a. let o = subst (λ (u : Turn). Left s next u p t n T) e a in (
+      record {
+        clause = [];
+        items = chapter v ∷ o .items;
+        strip = λ y. c y ∙ rw (o .strip y);
+        table = o .table;
+        variables = o .variables;
+        allows = o .allows;
+      },
+      subst (λ (u : Turn). Ending u n T → Ending Outside n T) (sym e) (λ w. w),
+    ),
   )
   obey-keeps Opens v e c = cond-ind (Keeps s i next p t Outside) _ _ (ltb (p .clauses) maxClauses)
       (λ b. (
         record { variables = d .variables; clauses = omega (arith, ltb-true (p .clauses) maxClauses b); literals = d .literals; elements = omega (arith, rw e at (d .elements)) },
-        λ n T a. let k = a .allows in record {
-          clause = [];
-          items = group (a .clause) ∷ a .items;
-          strip = λ y. c y ∙ rw (a .strip y);
-          table = a .table;
-          variables = a .variables;
-          allows = record { variables = k .variables; clauses = omega (arith, k .clauses); literals = k .literals; known = k .known };
-        },
+        λ n T a. let k = a .allows in (
+          record {
+            clause = [];
+            items = group (a .clause) ∷ a .items;
+            strip = λ y. c y ∙ rw (a .strip y);
+            table = a .table;
+            variables = a .variables;
+            allows = record { variables = k .variables; clauses = omega (arith, k .clauses); literals = k .literals; known = k .known };
+          },
+          λ w. w,
+        ),
       ))
       (λ b. (λ z. omega arith, λ z. omega arith))
   obey-keeps Taken v e c = entered-keeps e (Pos v) (λ y b r q. c y ∙ rw q)
   obey-keeps LeftOut v e c = entered-keeps e (Neg v) (λ y b r q. c y ∙ rw q)
   obey-keeps Closes v e c = (
     record { variables = d .variables; clauses = d .clauses; literals = d .literals; elements = omega (arith, rw e at (d .elements)) },
-    λ n T a. let k = a .allows in record {
-      clause = [];
-      items = a .items;
-      strip = λ y. c y ∙ rw (a .strip y);
-      table = a .table ∙ append-assoc t _ _;
-      variables = a .variables;
-      allows = record { variables = k .variables; clauses = omega (arith, k .clauses); literals = omega (arith, k .literals); known = closed-range n (groups (a .items)) (k .known) };
-    },
+    λ n T a. let k = a .allows in (
+      record {
+        clause = [];
+        items = a .items;
+        strip = λ y. c y ∙ rw (a .strip y);
+        table = a .table ∙ append-assoc t _ _;
+        variables = a .variables;
+        allows = record { variables = k .variables; clauses = omega (arith, k .clauses); literals = omega (arith, k .literals); known = closed-range n (groups (a .items)) (k .known) };
+      },
+      λ w. w,
+    ),
   )
-  obey-keeps Ends v e c = (
-    record { variables = d .variables; clauses = d .clauses; literals = d .literals; elements = omega (arith, rw e at (d .elements)) },
-    λ n T a. record { clause = []; items = []; strip = λ y. c y ∙ rw (a .strip y); table = a .table; variables = a .variables; allows = a .allows },
-  )
+  obey-keeps Ends v e c = cond-ind (Keeps s i next p t Outside) _ _ (mentionsAll (p .variables) t)
+      (λ b. (
+        record { variables = d .variables; clauses = d .clauses; literals = d .literals; elements = omega (arith, rw e at (d .elements)) },
+        λ n T a. (
+          record { clause = []; items = []; strip = λ y. c y ∙ rw (a .strip y); table = a .table; variables = a .variables; allows = a .allows },
+          λ _ _. rw (a .variables refl, a .table, append-nil t) b,
+        ),
+      ))
+      (λ b. (λ z. omega arith, λ z. omega arith))

@@ -1,13 +1,17 @@
 // Reading a strip: its commands one by one, the numbers that they change, and the table that they write.
 ghost use mathlib.Core.Path.{_≡_};
+ghost use mathlib.Core.List.{List};
 ghost use Prim.Native.Nat.{_≤_};
+ghost use lib.IntN.{ℤ};
 ghost use lib.ListN.{length, take};
 ghost use Rattle.literal.specs.Literal.{maxVariables};
 ghost use Rattle.receipt.specs.Receipt.{refusal};
 ghost use Rattle.theory.specs.declared.Command.the-variants as command;
 ghost use Rattle.theory.specs.declared.Obeyed.the-variants.{Goes};
-ghost use Rattle.theory.specs.Strip.{progress, entered, obey, notRead, ending, readStrip};
+ghost use Rattle.theory.specs.Mentions.{mentionsAll};
+ghost use Rattle.theory.specs.Strip.{progress, entered, ended, obey, notRead, ending, readStrip};
 ghost use Rattle.theory.specs.Calls.{over, readCall};
+ghost use Rattle.mentions.specs.Noted.{Noted};
 ghost use Rattle.strip.specs.Decoding.{decodingOf, called};
 use literal::ClauseNumber;
 use literal::Literal;
@@ -68,10 +72,33 @@ fn entered(progress: Progress, literal: Literal) -> Obeyed
     }
 }
 
-// What a command with its operand does. A chapter does nothing.
-fn obey(progress: Progress, operand: u16, mark: Mark) -> Obeyed
+// The end mark: every placement must have been named.
+fn ended(progress: Progress, mentioned: &[bool; Literal::VARIABLES]) -> Obeyed
     requires { ⌜ progress .variables ≤ maxVariables ⌝ }
-    ensures { λ r. ⌜ r ≡ obey progress operand mark ⌝ }
+    ensures { λ r. ⌜ ((t : List ℤ) → Noted (now (mentioned .entry)) t → r ≡ ended progress (mentionsAll (progress .variables) t)) ⌝ }
+{
+    if mentions::all_noted(mentioned, progress.variables as usize) {
+        goes(
+            Turn::After,
+            progress.variables,
+            progress.clauses,
+            progress.literals,
+            Stored::Nothing,
+        )
+    } else {
+        Obeyed::Refused(Fault::UnmentionedVariable)
+    }
+}
+
+// What a command with its operand does. A chapter does nothing.
+fn obey(
+    progress: Progress,
+    mentioned: &[bool; Literal::VARIABLES],
+    operand: u16,
+    mark: Mark,
+) -> Obeyed
+    requires { ⌜ progress .variables ≤ maxVariables ⌝ }
+    ensures { λ r. ⌜ ((t : List ℤ) → Noted (now (mentioned .entry)) t → r ≡ obey progress (mentionsAll (progress .variables) t) operand mark) ⌝ }
 {
     let n = progress.variables;
     let clauses = progress.clauses;
@@ -95,7 +122,7 @@ fn obey(progress: Progress, operand: u16, mark: Mark) -> Obeyed
         Mark::Taken => entered(progress, Literal::Pos(operand)),
         Mark::LeftOut => entered(progress, Literal::Neg(operand)),
         Mark::Closes => goes(Turn::Outside, n, clauses, literals, Stored::Element(0)),
-        Mark::Ends => goes(Turn::After, n, clauses, literals, Stored::Nothing),
+        Mark::Ends => ended(progress, mentioned),
     }
 }
 
@@ -152,6 +179,7 @@ pub fn decode(strip: &[u8], room: usize) -> Decoded
         return refused(Fault::StripTooLong, 0);
     }
     let mut cells = [0i16; Literal::MAX_TABLE];
+    let mut mentioned = [false; Literal::VARIABLES];
     let mut used: usize = 0;
     let mut progress = NOTHING_READ;
     let mut at: usize = 0;
@@ -161,7 +189,7 @@ pub fn decode(strip: &[u8], room: usize) -> Decoded
         let Command::Command(mark, operand, next) = found else {
             return passed_on(found);
         };
-        match obey(progress, operand, mark) {
+        match obey(progress, &mentioned, operand, mark) {
             Obeyed::Refused(fault) => return refused(fault, at),
             Obeyed::Goes(further, stored) => {
                 if let Stored::Element(element) = stored {
@@ -170,6 +198,7 @@ pub fn decode(strip: &[u8], room: usize) -> Decoded
                     }
                     cells[used] = element;
                     used += 1;
+                    mentions::note(&mut mentioned, literal::size(element));
                 }
                 progress = further;
                 at = next;
