@@ -10,12 +10,12 @@ use lib.Seq.{take-all}
 use Rattle.receipt.specs.declared.Fault.the-variants.{StripTooLong}
 use Rattle.receipt.specs.Receipt.{refusal}
 use Rattle.theory.specs.Calls.{solveCall, solveVariables}
-use Rattle.theory.specs.Strip.{maxStrip, readStrip}
+use Rattle.theory.specs.Strip.{maxStrip, readBy}
 use Rattle.text.specs.Text.{refusedText}
 use Rattle.report.specs.Report.{reportOf}
 
 too-long : (s : List ℕ) → maxStrip < length s → reportOf s ≡ refusedText (refusal StripTooLong 0)
-unfolding reportOf solveCall solveVariables readStrip
+unfolding reportOf solveCall solveVariables readBy
 too-long s h = rw (lt-ltb maxStrip (length s) h)
 
 pub one-past : (s : List ℕ) → reportOf (take (suc maxStrip) s) ≡ reportOf s

@@ -1,4 +1,4 @@
--- A2: the line that the layout program prints for a refused strip. With 5 it ends with the group that is open at the place; every other one keeps its two numbers.
+-- The line that the layout program prints for a refused strip. With 5 it ends with the group that is open at the place (A2); every other one keeps its two numbers, 26 too (A3).
 use mathlib.Core.Path.{_≡_}
 use mathlib.Core.Logic.{_≢_}
 use mathlib.Core.List.{List, [], _∷_}
@@ -9,10 +9,10 @@ use Rattle.receipt.specs.declared.Reading.the-variants.{Refused}
 use Rattle.receipt.specs.declared.Refusal.{Refusal}
 use Rattle.receipt.specs.Receipt.{numberOf, namedClause}
 use Rattle.theory.specs.Calls.{solveCall}
-use Rattle.theory.specs.Encoding.{Bytes}
+use Rattle.theory.specs.Encoding.{UnmentionedInStrip, Bytes}
 use Rattle.theory.specs.Strip.{readStrip}
 use Rattle.theory.specs.Unknown.{UnknownInStrip}
-use Rattle.strip.proofs.Named.{strip-names}
+use Rattle.strip.proofs.Receipts.{strip-names, strip-unmentioned}
 use Rattle.text.specs.Text.{codes, decimal, line, refusedText}
 use Rattle.report.specs.Report.{reportOf}
 
@@ -30,3 +30,8 @@ module _ (s : List ℕ) (f : Refusal) (e : readStrip s maxTable .reading ≡ Ref
   -- its other lines stay
   pub report-other : numberOf (f .fault) ≢ 5 → reportOf s ≡ line (codes "refused") (decimal (numberOf (f .fault)) ∷ decimal (f .place) ∷ [])
   report-other h = rw (report-refused, ne-eqb (numberOf (f .fault)) 5 h)
+
+  -- A3: with 26 the place is that of an end mark before which a placement isn't named
+  pub report-unmentioned : Bytes s → numberOf (f .fault) ≡ 26 →
+      UnmentionedInStrip s (f .place) × (reportOf s ≡ line (codes "refused") (decimal 26 ∷ decimal (f .place) ∷ []))
+  report-unmentioned b q = ((rw e at (strip-unmentioned s b maxTable)) q, rw (report-refused, q))

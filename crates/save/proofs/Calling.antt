@@ -1,5 +1,6 @@
 -- The ways in which a call of Save ends, as `saveCall` has them.
 use mathlib.Core.Path.{_≡_}
+use mathlib.Core.Bool.{false}
 use mathlib.Core.List.{List}
 use Prim.Native.Nat.{ℕ, _≤_, _<_}
 use native.Mathlib.Omega.{arith}
@@ -8,11 +9,12 @@ use lib.IntN.{ℤ}
 use lib.ListN.{length}
 use Rattle.general.specs.Appending.{Appended}
 use Rattle.receipt.specs.declared.Checked.the-variants as checked
-use Rattle.receipt.specs.declared.Fault.the-variants.{StripShort}
+use Rattle.receipt.specs.declared.Fault.the-variants.{StripShort, UnmentionedVariable}
 use Rattle.receipt.specs.declared.Refusal.{Refusal}
 use Rattle.receipt.specs.declared.Saving.the-variants.{Saved, Refused}
 use Rattle.receipt.specs.Receipt.{refusal}
 use Rattle.theory.specs.Table.{zeros, nonzeros, check, Accepted}
+use Rattle.theory.specs.Mentions.{mentionsAll, Mentioned}
 use Rattle.theory.specs.Encoding.{savedStrip, savedLength}
 use Rattle.theory.specs.Calls.{saveCall}
 use Rattle.theory.proofs.Encodings.{saved-length}
@@ -24,15 +26,19 @@ module _ (n : ℕ) (t : List ℤ) (s : List ℕ) where
   call-refused r e = rw e
 
   module _ (a : Accepted n t) where
-    pub call-short : length s < savedLength (zeros t) (nonzeros t) → called (Refused (refusal StripShort 0)) s ≡ saveCall n t s
+    pub call-unmentioned : mentionsAll n t ≡ false → called (Refused (refusal UnmentionedVariable 0)) s ≡ saveCall n t s
     unfolding saveCall
-    call-short h = rw (a, lt-ltb (length s) (length (savedStrip n t)) (omega (arith, saved-length n t a)))
+    call-unmentioned h = rw (a, h)
+
+    pub call-short : Mentioned n t → length s < savedLength (zeros t) (nonzeros t) → called (Refused (refusal StripShort 0)) s ≡ saveCall n t s
+    unfolding saveCall
+    call-short m h = rw (a, m, lt-ltb (length s) (length (savedStrip n t)) (omega (arith, saved-length n t a)))
 
     pub has-room : savedLength (zeros t) (nonzeros t) ≤ length s → length (savedStrip n t) ≤ length s
     has-room h = omega (arith, saved-length n t a)
 
-    pub call-saved : savedLength (zeros t) (nonzeros t) ≤ length s → (s′ : List ℕ) (k : ℕ) → Appended s 0 (savedStrip n t) s′ k → called (Saved k) s′ ≡ saveCall n t s
+    pub call-saved : Mentioned n t → savedLength (zeros t) (nonzeros t) ≤ length s → (s′ : List ℕ) (k : ℕ) → Appended s 0 (savedStrip n t) s′ k → called (Saved k) s′ ≡ saveCall n t s
     unfolding saveCall
-    call-saved h s′ k p =
+    call-saved m h s′ k p =
         let e : k ≡ length (savedStrip n t) = omega (arith, p .ends) in
-        rw (p .whole, e, a, le-ltb (length s) (length (savedStrip n t)) (has-room h))
+        rw (p .whole, e, a, m, le-ltb (length s) (length (savedStrip n t)) (has-room h))

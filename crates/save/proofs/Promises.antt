@@ -1,7 +1,8 @@
 -- What a call of Save promises, by its receipt and the strip buffer after it; and that Save and Read bring each other back.
 -- All of it follows from the equations that `save` and `read` ensure.
 use mathlib.Core.Path.{_≡_, refl, ap, sym, subst, _∙_}
-use mathlib.Core.Logic.{_↔_, _≢_}
+use mathlib.Core.Bool.{false}
+use mathlib.Core.Logic.{_↔_, _≢_, ⊎-elim}
 use mathlib.Core.List.{List}
 use Prim.Native.Nat.{ℕ, _≤_, _<_}
 use native.Mathlib.Omega.{arith}
@@ -10,12 +11,12 @@ use lib.Dec.{ltb}
 use lib.IntN.{ℤ}
 use lib.ListN.{length, take, drop}
 use lib.Seq.{take-at, drop-at}
-use Rattle.general.specs.Booleans.{cond-ind}
+use Rattle.general.specs.Booleans.{bool-cases, true-not-false, cond-ind}
 use Rattle.receipt.specs.Receipt.{numberOf, done, receipt, refusal}
 use Rattle.receipt.specs.Answers.{savingReceipt, readingReceipt, readLength}
 use Rattle.receipt.specs.declared.Checked.{Checked}
 use Rattle.receipt.specs.declared.Checked.the-variants as checked
-use Rattle.receipt.specs.declared.Fault.the-variants.{StripTooLong, StripShort}
+use Rattle.receipt.specs.declared.Fault.the-variants.{StripTooLong, StripShort, UnmentionedVariable}
 use Rattle.receipt.specs.declared.Reading.{Reading}
 use Rattle.receipt.specs.declared.Reading.the-variants.{Read}
 use Rattle.receipt.specs.declared.Refusal.{Refusal}
@@ -24,6 +25,7 @@ use Rattle.receipt.specs.declared.Saving.the-variants.{Saved, Refused}
 use Rattle.receipt.proofs.Numbers.{not-refused}
 use Rattle.theory.specs.Calls.{over, SaveCall, saveChecked, saveCall, readCall}
 use Rattle.theory.specs.Encoding.{savedStrip, savedLength, Unchaptered, Bytes}
+use Rattle.theory.specs.Mentions.{mentionsAll, Mentioned}
 use Rattle.theory.specs.Strip.{Decoding, readStrip}
 use Rattle.theory.specs.Table.{zeros, nonzeros, check, Accepted, WithinLimits}
 use Rattle.theory.specs.Unknown.{UnknownInTable, Names}
@@ -32,7 +34,7 @@ use Rattle.theory.proofs.Tables.{accepted-sizes, accepted-exactly}
 use Rattle.theory.proofs.Unknown.{none-named, check-names}
 use Rattle.strip.specs.Decoding.{called as readCalled}
 use Rattle.strip.proofs.Accepted.{read-accepted}
-use Rattle.strip.proofs.Ends.{sized}
+use Rattle.strip.proofs.Ends.{read-mentioned, sized}
 use Rattle.strip.proofs.Promises.{read-too-long}
 use Rattle.save.specs.Save.{called}
 use Rattle.save.proofs.RoundTrip.{saved-reads, read-saves}
@@ -44,14 +46,14 @@ NotRefused r = (w : Refusal) → ¬ (r ≡ Refused w)
 pub record Call (n : ℕ) (t : List ℤ) (s : List ℕ) (r : Saving) (s′ : List ℕ) : Type 0 where
   pub is : called r s′ ≡ saveCall n t s
 
--- a table within the limits, and room for its strip
+-- a table within the limits that names every placement (A3), and room for its strip
 abbrev pub Savable : ℕ → List ℤ → List ℕ → Type 0
-Savable n t s = WithinLimits n t × (savedLength (zeros t) (nonzeros t) ≤ length s)
+Savable n t s = WithinLimits n t × Mentioned n t × (savedLength (zeros t) (nonzeros t) ≤ length s)
 
 -- the two ways in which a call ends
 data Way (n : ℕ) (t : List ℤ) (s : List ℕ) : Saving → List ℕ → Type 0 where
   refused : (w : Refusal) → ¬ Savable n t s → Way n t s (Refused w) s
-  saved : Accepted n t → length (savedStrip n t) ≤ length s → Way n t s (Saved (length (savedStrip n t))) (over (length (savedStrip n t)) (savedStrip n t) s)
+  saved : Accepted n t → Mentioned n t → length (savedStrip n t) ≤ length s → Way n t s (Saved (length (savedStrip n t))) (over (length (savedStrip n t)) (savedStrip n t) s)
 
 abbrev By : ℕ → List ℤ → List ℕ → SaveCall → Type 0
 By n t s k = Way n t s (k .answer) (k .strip)
@@ -62,9 +64,11 @@ way {n} {t} {s} c = subst (By n t s) (sym (c .is)) (go (check n t) refl)
   where
     go : (k : Checked) → check n t ≡ k → By n t s (saveChecked k n t s)
     go (checked.Refused w) e = refused w (λ h. let z : _≡_ {A = ℕ} 0 1 = cc (accepted-exactly n t .1 (h .0)) in omega arith)
-    go checked.Passed e = cond-ind (By n t s) _ _ (ltb (length s) (length (savedStrip n t)))
-        (λ b. refused _ (λ h. omega (arith, h .1, saved-length n t e, ltb-true (length s) (length (savedStrip n t)) b)))
-        (λ b. saved e (ltb-false (length s) (length (savedStrip n t)) b))
+    go checked.Passed e = cond-ind (By n t s) _ _ (mentionsAll n t)
+        (λ m. cond-ind (By n t s) _ _ (ltb (length s) (length (savedStrip n t)))
+        (λ b. refused _ (λ h. omega (arith, h .2, saved-length n t e, ltb-true (length s) (length (savedStrip n t)) b)))
+        (λ b. saved e m (ltb-false (length s) (length (savedStrip n t)) b)))
+        (λ m. refused _ (λ h. true-not-false (h .1) m))
 
 module _ {n : ℕ} {t : List ℤ} {s : List ℕ} {r : Saving} {s′ : List ℕ} (c : Call n t s r s′) where
   -- demand 1, of Save: a table within the limits, with room lent, is accepted
@@ -73,7 +77,7 @@ module _ {n : ℕ} {t : List ℤ} {s : List ℕ} {r : Saving} {s′ : List ℕ} 
     where
       go : {r : Saving} {s′ : List ℕ} → Way n t s r s′ → NotRefused r ↔ Savable n t s
       go (refused w h) = (λ k. absurd (k w refl), λ k. absurd (h k))
-      go (saved a h) = (λ _. (accepted-sizes n t a, omega (arith, saved-length n t a)), λ _ w q. let z : _≡_ {A = ℕ} 0 1 = cc in omega arith)
+      go (saved a m h) = (λ _. (accepted-sizes n t a, m, omega (arith, saved-length n t a)), λ _ w q. let z : _≡_ {A = ℕ} 0 1 = cc in omega arith)
 
   -- "Success is 18, done"; "place is its length"
   pub save-answers : NotRefused r → savingReceipt r ≡ receipt done (savedLength (zeros t) (nonzeros t)) 0
@@ -81,25 +85,35 @@ module _ {n : ℕ} {t : List ℤ} {s : List ℕ} {r : Saving} {s′ : List ℕ} 
     where
       go : {r : Saving} {s′ : List ℕ} → Way n t s r s′ → NotRefused r → savingReceipt r ≡ receipt done (savedLength (zeros t) (nonzeros t)) 0
       go (refused w h) k = absurd (k w refl)
-      go (saved a h) k = ap (λ (m : ℕ). receipt done m 0) (saved-length n t a)
+      go (saved a m h) k = ap (λ (x : ℕ). receipt done x 0) (saved-length n t a)
 
   -- "Turned away: 1 to 5 as for any table"
   pub save-table-refused : (w : Refusal) → check n t ≡ checked.Refused w → r ≡ Refused w
   unfolding saveCall
   save-table-refused w e = ap (λ (k : SaveCall). k .answer) (c .is) ∙ rw e
 
-  -- "then 25, strip room short"
-  pub save-strip-short : WithinLimits n t → length s < savedLength (zeros t) (nonzeros t) → r ≡ Refused (refusal StripShort 0)
+  -- A3: 26 "in saving after 5 and before 25", place 0
+  pub save-unmentioned : WithinLimits n t → ¬ Mentioned n t → r ≡ Refused (refusal UnmentionedVariable 0)
   unfolding saveCall
-  save-strip-short w h =
+  save-unmentioned w h =
       let a : Accepted n t = accepted-exactly n t .1 w in
-      ap (λ (k : SaveCall). k .answer) (c .is) ∙ rw (a, lt-ltb (length s) (length (savedStrip n t)) (omega (arith, saved-length n t a)))
+      let m : mentionsAll n t ≡ false = ⊎-elim (λ z. absurd (h z)) (λ z. z) (bool-cases (mentionsAll n t)) in
+      ap (λ (k : SaveCall). k .answer) (c .is) ∙ rw (a, m)
+
+  -- "then 25, strip room short"
+  pub save-strip-short : WithinLimits n t → Mentioned n t → length s < savedLength (zeros t) (nonzeros t) → r ≡ Refused (refusal StripShort 0)
+  unfolding saveCall
+  save-strip-short w m h =
+      let a : Accepted n t = accepted-exactly n t .1 w in
+      ap (λ (k : SaveCall). k .answer) (c .is) ∙ rw (a, m, lt-ltb (length s) (length (savedStrip n t)) (omega (arith, saved-length n t a)))
 
   -- A2: 5 is for the first unknown placement, with its group; "for all other numbers it is 0"
   pub save-names : Names (UnknownInTable n t) (savingReceipt r)
   unfolding saveCall
   save-names = rw (ap (λ (k : SaveCall). k .answer) (c .is)) (check-names n t (λ k. savingReceipt (saveChecked k n t s .answer)) (λ w. refl)
-      (cond-ind NamesAt _ _ (ltb (length s) (length (savedStrip n t))) (λ _. none-named 25 0 0 (λ e. omega arith)) (λ _. none-named done _ 0 (λ e. omega arith))))
+      (cond-ind NamesAt _ _ (mentionsAll n t)
+      (λ _. cond-ind NamesAt _ _ (ltb (length s) (length (savedStrip n t))) (λ _. none-named 25 0 0 (λ e. omega arith)) (λ _. none-named done _ 0 (λ e. omega arith)))
+      (λ _. none-named 26 0 0 (λ e. omega arith))))
     where
       NamesAt : SaveCall → Type 0
       NamesAt k = Names (UnknownInTable n t) (savingReceipt (k .answer))
@@ -110,7 +124,7 @@ module _ {n : ℕ} {t : List ℤ} {s : List ℕ} {r : Saving} {s′ : List ℕ} 
     where
       go : {r : Saving} {s′ : List ℕ} → Way n t s r s′ → r ≡ Refused w → s′ ≡ s
       go (refused x h) q = refl
-      go (saved a h) q = absurd (let z : _≡_ {A = ℕ} 0 1 = cc in omega arith)
+      go (saved a m h) q = absurd (let z : _≡_ {A = ℕ} 0 1 = cc in omega arith)
 
   -- "past the written bytes it is untouched always"
   pub save-rest-kept : drop (length (savedStrip n t)) s′ ≡ drop (length (savedStrip n t)) s
@@ -118,20 +132,20 @@ module _ {n : ℕ} {t : List ℤ} {s : List ℕ} {r : Saving} {s′ : List ℕ} 
     where
       go : {r : Saving} {s′ : List ℕ} → Way n t s r s′ → drop (length (savedStrip n t)) s′ ≡ drop (length (savedStrip n t)) s
       go (refused w h) = refl
-      go (saved a h) = drop-at (savedStrip n t) _ _ refl
+      go (saved a m h) = drop-at (savedStrip n t) _ _ refl
 
   -- 18: what is written ----------------------------------------------------------------------------------------------
   module _ (q : savingReceipt r .number ≡ done) where
-    written : Accepted n t × (take (savingReceipt r .place) s′ ≡ savedStrip n t)
+    written : Accepted n t × Mentioned n t × (take (savingReceipt r .place) s′ ≡ savedStrip n t)
     written = go (way c) q
       where
-        go : {r : Saving} {s′ : List ℕ} → Way n t s r s′ → savingReceipt r .number ≡ done → Accepted n t × (take (savingReceipt r .place) s′ ≡ savedStrip n t)
+        go : {r : Saving} {s′ : List ℕ} → Way n t s r s′ → savingReceipt r .number ≡ done → Accepted n t × Mentioned n t × (take (savingReceipt r .place) s′ ≡ savedStrip n t)
         go (refused w h) q = absurd (not-refused (w .fault) done refl q)
-        go (saved a h) q = (a, take-at (savedStrip n t) _ _ refl)
+        go (saved a m h) q = (a, m, take-at (savedStrip n t) _ _ refl)
 
     -- the first bytes, as many as place says, are the strip of the table
     pub save-writes : take (savingReceipt r .place) s′ ≡ savedStrip n t
-    save-writes = written .1
+    save-writes = written .2
 
     module _ (t₀ : List ℤ) (r₂ : Reading) (t₂ : List ℤ) (reads : readCalled r₂ t₂ ≡ readCall (take (savingReceipt r .place) s′) t₀) where
       -- "Reading the saved strip brings back n and the same table", at the start of a table with room for it
@@ -139,7 +153,7 @@ module _ {n : ℕ} {t : List ℤ} {s : List ℕ} {r : Saving} {s′ : List ℕ} 
       unfolding readCall
       save-then-read fits =
           let d : readStrip (take (savingReceipt r .place) s′) (length t₀) ≡ record { reading = Read n (length t); table = t } =
-          rw save-writes (saved-reads n t (written .0) (length t₀) fits) in
+          rw save-writes (saved-reads n t (written .0) (written .1) (length t₀) fits) in
           let e = rw d at reads in (ap (λ k. k .answer) e, ap (λ k. k .table) e)
 
       -- it is never too long to be read, whatever room the table has
@@ -169,6 +183,7 @@ module _ (s : List ℕ) (t₀ : List ℤ) (r₂ : Reading) (t₂ : List ℤ) (re
   unfolding saveCall
   read-then-save b plain s₀ r s₁ c fits =
       let passed : Accepted n (take u t₂) = rw used (read-accepted s (length t₀) n u answer) in
+      let mentioned : Mentioned n (take u t₂) = rw used (read-mentioned s (length t₀) n u answer) in
       let same : savedStrip n (take u t₂) ≡ s = rw used (read-saves s b plain (length t₀) n u answer) in
-      let e = rw (passed, same, le-ltb (length s₀) (length s) fits) at (c .is) in
+      let e = rw (passed, mentioned, same, le-ltb (length s₀) (length s) fits) at (c .is) in
       (ap (λ (k : SaveCall). savingReceipt (k .answer)) e, ap (λ (k : SaveCall). k .strip) e)

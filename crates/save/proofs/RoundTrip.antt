@@ -6,21 +6,20 @@ use lib.IntN.{ℤ}
 use lib.ListN.{length}
 use Rattle.receipt.specs.declared.Reading.the-variants.{Read}
 use Rattle.theory.specs.Formula.{Formula, clauses}
+use Rattle.theory.specs.Mentions.{Mentioned}
 use Rattle.theory.specs.Table.{Accepted}
 use Rattle.theory.specs.Strip.{nothingRead, readStrip}
-use Rattle.theory.specs.Encoding.{group, encode, groups, tableOf, savedStrip, Unchaptered, Bytes}
-use Rattle.theory.proofs.Tables.{accepted-closed}
-use Rattle.theory.proofs.Encodings.{table-clauses, clauses-table, groups-only, encode-injective, saved-bytes, saved-within}
+use Rattle.theory.specs.Encoding.{group, encode, groups, savedStrip, Unchaptered, Bytes}
+use Rattle.theory.proofs.Encodings.{clauses-table, groups-only, encode-injective, saved-bytes, saved-table, saved-within}
 use Rattle.strip.proofs.Ends.{Ended, answered}
 use Rattle.strip.proofs.Promises.{within-reads}
 
-module _ (n : ℕ) (t : List ℤ) (a : Accepted n t) where
-  table-back : tableOf (groups (map group (clauses t))) ≡ t
-  table-back = rw (groups-only (clauses t)) (table-clauses _ t (accepted-closed n t a))
-
-  -- "Reading the saved strip brings back n and the same table"
-  pub saved-reads : (room : ℕ) → length t ≤ room → readStrip (savedStrip n t) room ≡ record { reading = Read n (length t); table = t }
-  saved-reads room fits = rw table-back at (within-reads (savedStrip n t) (saved-bytes n t a) room n _ (saved-within n t a) (rw table-back fits))
+-- "Reading the saved strip brings back n and the same table"
+pub saved-reads : (n : ℕ) (t : List ℤ) → Accepted n t → Mentioned n t → (room : ℕ) → length t ≤ room →
+    readStrip (savedStrip n t) room ≡ record { reading = Read n (length t); table = t }
+saved-reads n t a m room fits =
+    let back = saved-table n t a in
+    rw back at (within-reads (savedStrip n t) (saved-bytes n t a) room n _ (saved-within n t a m) (rw back fits))
 
 -- "for a strip without chapter marks, reading and then saving brings back the same bytes"
 pub read-saves : (s : List ℕ) → Bytes s → Unchaptered s → (room n u : ℕ) → readStrip s room .reading ≡ Read n u → savedStrip n (readStrip s room .table) ≡ s

@@ -129,6 +129,9 @@ pub fn save(table: &[i16], n: usize, strip: &mut [u8]) -> Saving
     match checked {
         Checked::Refused(refusal) => Saving::Refused(refusal),
         Checked::Passed => {
+            if !mentions::mentions_all(table, n) {
+                return Saving::Refused(Refusal::new(Fault::UnmentionedVariable, 0));
+            }
             if strip.len() < saved_length(tally.clauses, tally.literals) {
                 return Saving::Refused(Refusal::new(Fault::StripShort, 0));
             }

@@ -3,8 +3,9 @@ use mathlib.Core.Path.{_≡_, refl}
 use mathlib.Core.List.{List, [], _∷_, map}
 use Prim.Native.Nat.{ℕ}
 use Prim.Native.String.{String}
-use Rattle.general.specs.Search.{firstPlace}
+use Rattle.general.specs.Search.{firstPlace, any}
 use Rattle.theory.specs.Formula.{clauses}
+use Rattle.theory.specs.Mentions.{mentionsAll}
 use Rattle.theory.specs.Table.{check, zeros, nonzeros, endsOpen}
 use Rattle.theory.specs.Encoding.{entryBytes, itemBytes, savedStrip}
 use Rattle.scan.specs.Scan.{valueFrom, leading, wordAt, tableFrom}
@@ -22,6 +23,7 @@ abbrev pub rows : List Row
 rows =
     row "3 1 2 3 0\n" (strip (0x50 ∷ 0x00 ∷ 0x03 ∷ 0x47 ∷ 0x54 ∷ 0x00 ∷ 0x01 ∷ 0x54 ∷ 0x00 ∷ 0x02 ∷ 0x54 ∷ 0x00 ∷ 0x03 ∷ 0x45 ∷ 0x5A ∷ []))
     ∷ row " 1\n-1 0" (strip (0x50 ∷ 0x00 ∷ 0x01 ∷ 0x47 ∷ 0x4C ∷ 0x00 ∷ 0x01 ∷ 0x45 ∷ 0x5A ∷ []))
+    ∷ row "2 1 0" (message (codes "refused 26 0\n"))
     ∷ row "1 -32768 0" (message (codes "refused 5 0 1\n"))
     ∷ row "1 32768 0" (message (codes "no valid number at byte 2\n"))
     ∷ row " -1" (message (codes "no valid number at byte 1\n"))
@@ -29,5 +31,5 @@ rows =
     ∷ []
 
 pub examples-hold : map (λ (r : Row). outputOf (r .text)) rows ≡ map (λ (r : Row). r .output) rows
-unfolding outputOf wordAt leading valueFrom tableFrom check zeros nonzeros endsOpen firstPlace clauses savedStrip itemBytes entryBytes decimal digitsWithin spaced
+unfolding outputOf wordAt leading valueFrom tableFrom check zeros nonzeros endsOpen firstPlace any mentionsAll clauses savedStrip itemBytes entryBytes decimal digitsWithin spaced
 examples-hold = refl

@@ -20,24 +20,26 @@ use Rattle.receipt.specs.declared.Reading.the-variants.{Read, Refused}
 use Rattle.receipt.specs.declared.Receipt.{Receipt}
 use Rattle.receipt.specs.declared.Refusal.{Refusal}
 use Rattle.receipt.specs.declared.Searching.{Searching}
-use Rattle.receipt.specs.Receipt.{numberOf, outcomeNumber, refusal}
+use Rattle.receipt.specs.Receipt.{numberOf, outcomeNumber, refusal, refusedReceipt}
 use Rattle.receipt.specs.Answers.{searchingReceipt}
 use Rattle.receipt.proofs.Numbers.{not-refused, outcome-answers}
 use Rattle.theory.specs.Bound.{N}
 use Rattle.theory.specs.Calls.{over, SearchCall, searchRefused, searchCall, readCall, solveCall, receiptLength, receiptBytes, WindowCall, written, windowCall}
-use Rattle.theory.specs.Encoding.{Item, groups, tableOf, entries, StripWithin, Bytes}
+use Rattle.theory.specs.Encoding.{Item, groups, tableOf, entries, StripWithin, UnmentionedInStrip, Bytes}
 use Rattle.theory.specs.Formula.{Formula, Choice, clauses, Solution}
+use Rattle.theory.specs.Mentions.{AllStand}
 use Rattle.theory.specs.Order.{_≼_, Least}
 use Rattle.theory.specs.Search.{needs}
 use Rattle.theory.specs.Strip.{Decoding, nothingRead, readStrip}
 use Rattle.theory.specs.Unknown.{UnknownInStrip, Names}
 use Rattle.theory.proofs.Encodings.{clauses-table}
-use Rattle.theory.proofs.Tables.{accepted-sizes}
+use Rattle.theory.proofs.Mentions.{mentioned-exactly}
+use Rattle.theory.proofs.Tables.{accepted-sizes, accepted-exactly as table-accepted}
 use Rattle.strip.proofs.Accepted.{read-accepted}
 use Rattle.strip.proofs.Ends.{Ended, answered}
 use Rattle.strip.proofs.Promises.{within-reads, accepted-exactly}
 use Rattle.search.specs.Call as search
-use Rattle.strip.proofs.Named.{strip-names}
+use Rattle.strip.proofs.Receipts.{strip-names, strip-unmentioned}
 use Rattle.search.proofs.Calling.{call-plan-short}
 use Rattle.search.proofs.Promises as promises
 use Rattle.window.specs.Window.{called}
@@ -52,7 +54,7 @@ table-length [] = refl
 table-length (c ∷ f) = omega (arith, table-length f, length-append (map entryOf c) (posℤ 0 ∷ tableOf f), length-map c entryOf)
 
 within-read : {s : List ℕ} {n : ℕ} {l : List Item} → Bytes s → StripWithin s n l → readStrip s maxTable ≡ record { reading = Read n (length (tableOf (groups l))); table = tableOf (groups l) }
-within-read {s} {n} {l} b w = within-reads s b maxTable n l w (omega (arith, table-length (groups l), w .clauses, w .literals))
+within-read {s} {n} {l} b w = let k = w .limits in within-reads s b maxTable n l w (omega (arith, table-length (groups l), k .clauses, k .literals))
 
 strip-exactly : (s : List ℕ) → Bytes s → (n u : ℕ) (t : List ℤ) → length t ≡ maxTable → readStrip s maxTable .reading ≡ Read n u → (l : List Item) × StripWithin s n l
 unfolding readCall
@@ -78,10 +80,10 @@ module _ (s : List ℕ) (b : ℕ) (plan : List ℕ) (trail : List ℤ) where
   unfolding solveCall
   solve-reads n u e = rw e
 
-outcome-not-short : (o : Outcome) → ¬ (outcomeNumber o ≡ numberOf TableShort)
-outcome-not-short LaidOut e = omega arith
-outcome-not-short NoLayout e = omega arith
-outcome-not-short Stopped e = omega arith
+outcome-low : (o : Outcome) → outcomeNumber o ≤ 11
+outcome-low LaidOut = omega arith
+outcome-low NoLayout = omega arith
+outcome-low Stopped = omega arith
 
 -- no other refusal has the number of a table short
 refused-not-short : (s : List ℕ) (f : Refusal) → readStrip s maxTable .reading ≡ Refused f → ¬ (numberOf (f .fault) ≡ numberOf TableShort)
@@ -140,7 +142,7 @@ module _ {s : List ℕ} {b : ℕ} {plan old : List ℕ} {w : WindowCall} (h : St
 
   -- every call is refused, or searches what was read
   abbrev Turned : Type 0
-  Turned = (f : Refusal) × (w ≡ refusedCall f plan old) × ¬ (numberOf (f .fault) ≡ numberOf TableShort)
+  Turned = (f : Refusal) × (w ≡ refusedCall f plan old) × ((readStrip s maxTable .reading ≡ Refused f) ⊎ (f ≡ refusal PlanShort 0))
 
   abbrev Answered : Type 0
   Answered = (n : ℕ) × (u : ℕ) × (readStrip s maxTable .reading ≡ Read n u) × (n ≤ length plan) × ((o : Outcome) × Reports w o)
@@ -149,9 +151,9 @@ module _ {s : List ℕ} {b : ℕ} {plan old : List ℕ} {w : WindowCall} (h : St
   fate = go (readStrip s maxTable .reading) refl
     where
       go : (r : Reading) → readStrip s maxTable .reading ≡ r → Turned ⊎ Answered
-      go (Refused f) e = inl (f, window-strip-refused f e, refused-not-short s f e)
+      go (Refused f) e = inl (f, window-strip-refused f e, inl e)
       go (Read n u) e = elim (decLt (length plan) n) [
-        | yes k ↦ inl (refusal PlanShort 0, window-plan-short n u e k, λ z. omega arith)
+        | yes k ↦ inl (refusal PlanShort 0, window-plan-short n u e k, inr refl)
         | no k ↦
             let l : n ≤ length plan = omega arith in
             let q = ap (λ (c : WindowCall). c .number) (read n u e) in
@@ -165,8 +167,27 @@ module _ {s : List ℕ} {b : ℕ} {plan old : List ℕ} {w : WindowCall} (h : St
   pub window-refused-unchanged : ((o : Outcome) → ¬ Reports w o) → (f : Refusal) × (w ≡ refusedCall f plan old)
   window-refused-unchanged k = ⊎-elim (λ r. (r .0, r .1)) (λ a. absurd (k (a .4 .0) (a .4 .1))) fate
 
+  -- what is answered with another number than 6 and those of outcomes is a refusal of the strip
+  of-strip : 11 < w .number → (f : Refusal) × (w ≡ refusedCall f plan old) × (readStrip s maxTable .reading ≡ Refused f)
+  of-strip k = ⊎-elim
+      (λ r. ⊎-elim
+      (λ q. (r .0, r .1, q))
+      (λ q. absurd (omega (arith, ap (λ (c : WindowCall). c .number) (r .1), ap (λ (f : Refusal). numberOf (f .fault)) q)))
+      (r .2))
+      (λ a. absurd (omega (arith, a .4 .1, outcome-low (a .4 .0))))
+      fate
+
   not-short : ¬ (w .number ≡ numberOf TableShort)
-  not-short e = ⊎-elim (λ r. r .2 (sym (ap (λ (c : WindowCall). c .number) (r .1)) ∙ e)) (λ a. outcome-not-short (a .4 .0) (sym (a .4 .1) ∙ e)) fate
+  not-short e = let r = of-strip (omega arith) in refused-not-short s (r .0) (r .2) (sym (ap (λ (c : WindowCall). c .number) (r .1)) ∙ e)
+
+  -- A3: 26 is for a strip that doesn't name every placement before the end mark at the place
+  pub window-unmentioned : Bytes s → w .number ≡ 26 → UnmentionedInStrip s (receiptOn (w .receipt) .place)
+  window-unmentioned b e =
+      let r = of-strip (omega arith) in
+      let place : receiptOn (w .receipt) .place ≡ r .0 .place =
+      ap (λ (c : WindowCall). receiptOn (c .receipt) .place) (r .1) ∙ numbers-read (refusedReceipt (r .0)) old .1 in
+      let told = rw (r .2) at (strip-unmentioned s b maxTable) in
+      rw place (told (sym (ap (λ (c : WindowCall). c .number) (r .1)) ∙ e))
 
 -- "strip refusals except 23": no call is answered with it
 pub window-never-short : (s : List ℕ) (b : ℕ) (plan old : List ℕ) (w : WindowCall) → w ≡ windowCall s b plan old → ¬ (w .number ≡ numberOf TableShort)
@@ -216,7 +237,11 @@ module _ {s : List ℕ} {n : ℕ} {l : List Item} {b : ℕ} {plan old : List ℕ
   reported e = ap (λ (c : WindowCall). c .number) (window-searches .1) ∙ e
 
   is-formula : clauses table ≡ groups l
-  is-formula = clauses-table (groups l) (h .acceptable .strip .known .low)
+  is-formula = clauses-table (groups l) (h .acceptable .strip .limits .known .low)
+
+  -- A3: no placement is left out "for want of a rule": each stands in a group of the strip
+  pub window-mentions-all : AllStand n (groups l)
+  window-mentions-all = rw is-formula at (mentioned-exactly n table (table-accepted n table .1 (call .acceptable .table)) .0 (h .acceptable .strip .mentioned))
 
   -- demand 1: "a search brings back a layout, no layout, or a stop"
   pub window-ends : Reports w LaidOut ⊎ Reports w NoLayout ⊎ Reports w Stopped
