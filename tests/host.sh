@@ -22,7 +22,8 @@ same "host, as C++" "$("$prefix/host++")" "plan 0 0 1, 1 splits"
 gcc -std=c11 "${flags[@]}" tests/window_test.c "$archive" -o "$prefix/window_test"
 "$prefix/window_test"
 
-# the layout program: document 01's strip, strips of 16,384 and of 16,385 bytes, both in order, with chapters in between, and a refusal that names its group
+# the layout program: document 01's strip, strips of 16,384 and of 16,385 bytes, both in order, with chapters in between, a refusal that names its group, and one
+# of a strip that leaves a placement unnamed
 chapters() { yes C | tr '\n' '\0' | head -c "$1"; }
 longest() { printf 'P\0\0'; chapters 16380; printf Z; }
 longer() { printf 'P\0\1GT\0\1E'; chapters 16376; printf Z; }
@@ -31,6 +32,7 @@ same "layout" "$("$prefix/bin/layout" <crates/layout/stdin)" "$(cat crates/layou
 same "layout, 16,384 bytes" "$(longest | "$prefix/bin/layout")" $'laid out\ncount 0\nplan\ntrail'
 same "layout, 16,385 bytes" "$(longer | "$prefix/bin/layout")" "refused 24 0"
 same "layout, an unknown placement in the second group" "$(printf 'P\0\2GT\0\1ECGGT\0\3EZ' | "$prefix/bin/layout")" "refused 5 11 2"
+same "layout, an unnamed placement" "$(printf 'P\0\1Z' | "$prefix/bin/layout")" "refused 26 3"
 
 # strip_of: README's first example, the longest table, and a text of each kind that gets a line on standard error and nothing on standard output
 strip_of() { timeout 60 "$prefix/bin/strip_of"; }
@@ -50,4 +52,5 @@ printf '' | told "an empty text" "no valid number at byte 0"
 echo 2 1 -3 0 | told "an unknown placement" "refused 5 1 1"
 echo 2 1 0 0 2 -3 0 | told "an unknown placement in the third group" "refused 5 4 3"
 echo 257 | told "too many placements" "refused 1 0"
+echo 3 1 0 -3 0 | told "an unnamed placement" "refused 26 0"
 yes 1 | told "a text without end" "text too long at byte 32768"

@@ -1,11 +1,12 @@
-/* Document 01 once more, in plain C and step by step: a second opinion for the tests, written for being read and not for speed. */
+/* Document 01 once more, and document 02's A2 and A3 in the reading of strips, in plain C and step by step: a second opinion for the tests, written
+ * for being read and not for speed. */
 #ifndef REFERENCE_H
 #define REFERENCE_H
 
 #include <stdint.h>
 #include <string.h>
 
-enum { MAX_N = 256, MAX_GROUPS = 512, MAX_ENTRIES = 2048, TRUE_LITERAL = 257 };
+enum { MAX_N = 256, MAX_GROUPS = 512, MAX_ENTRIES = 2048, MAX_STRIP = 16384, TRUE_LITERAL = 257 };
 
 /* A filing: n placements and groups of entries, +p or -p. */
 struct filing {
@@ -222,6 +223,110 @@ static inline int try_all_choices(const struct filing *f, uint8_t *plan) {
         if (met) return 1;
     }
     return 0;
+}
+
+/* Strips */
+
+enum { STRIP_READ = 16, UNNAMED = 26 };
+
+enum turn { BEFORE, OUTSIDE, INSIDE, AFTER }; /* before 50, outside a group, inside one, after 5A */
+
+struct reading {
+    int number; /* 16, or a refusal's with its place and group */
+    uint32_t place, clause;
+    enum turn turn;
+    int entries; /* those read so far, the open group's too */
+    struct filing filing;
+};
+
+static int is_named(const struct filing *f, int p) {
+    for (int i = 0; i < f->start[f->groups]; i++)
+        if (size_of(f->entry[i]) == p) return 1;
+    return 0;
+}
+
+/* "A strip must name every declared placement in at least one entry." */
+static int all_named(const struct filing *f) {
+    for (int p = 1; p <= f->n; p++)
+        if (!is_named(f, p)) return 0;
+    return 1;
+}
+
+/* The bytes of a mark's operand, -1 of a byte that is no mark. */
+static int operand_bytes(int mark) {
+    switch (mark) {
+    case 0x50: case 0x54: case 0x4C: return 2;
+    case 0x43: return 1;
+    case 0x47: case 0x45: case 0x5A: return 0;
+    default: return -1;
+    }
+}
+
+static enum turn turn_of(int mark) {
+    switch (mark) {
+    case 0x50: return BEFORE;
+    case 0x54: case 0x4C: case 0x45: return INSIDE;
+    default: return OUTSIDE;
+    }
+}
+
+static int read_entry(struct reading *r, int p, int sign) {
+    if (p == 0 || p > r->filing.n) return 5;
+    if (r->entries == MAX_ENTRIES) return 3;
+    r->filing.entry[r->entries++] = sign * p;
+    return 0;
+}
+
+/* What a command with its operand does: 0, or why it is refused. */
+static int obey(struct reading *r, int mark, int operand) {
+    struct filing *f = &r->filing;
+    switch (mark) {
+    case 0x50:
+        if (operand > MAX_N) return 1;
+        f->n = operand;
+        r->turn = OUTSIDE;
+        return 0;
+    case 0x47:
+        if (f->groups == MAX_GROUPS) return 2;
+        r->turn = INSIDE;
+        return 0;
+    case 0x54: return read_entry(r, operand, 1);
+    case 0x4C: return read_entry(r, operand, -1);
+    case 0x45:
+        f->start[++f->groups] = r->entries;
+        r->turn = OUTSIDE;
+        return 0;
+    case 0x5A:
+        if (!all_named(f)) return UNNAMED;
+        r->turn = AFTER;
+        return 0;
+    default: return 0; /* a chapter */
+    }
+}
+
+/* "command by command 20, 22, 21, value (1 or 5), limit" */
+static int read_command(struct reading *r, const uint8_t *at, size_t left) {
+    int bytes = operand_bytes(at[0]);
+    if (bytes < 0) return 20;
+    if (turn_of(at[0]) != r->turn) return 22;
+    if (left <= (size_t)bytes) return 21;
+    return obey(r, at[0], bytes == 2 ? at[1] * 256 + at[2] : 0);
+}
+
+/* A strip into a table with room for everything, so that 23 can't happen. */
+static void reference_read(const uint8_t *strip, size_t size, struct reading *r) {
+    size_t at = 0;
+    memset(r, 0, sizeof *r);
+    if (size > MAX_STRIP) r->number = 24;
+    while (r->number == 0 && at < size) {
+        r->number = read_command(r, strip + at, size - at);
+        r->place = (uint32_t)at;
+        if (r->number == 0) at += (size_t)operand_bytes(strip[at]) + 1;
+    }
+    if (r->number == 5) r->clause = (uint32_t)r->filing.groups + 1;
+    if (r->number != 0) return;
+    r->number = r->turn == AFTER ? STRIP_READ : 21;
+    r->place = r->turn == AFTER ? 0 : (uint32_t)size;
 }
 
 #endif
