@@ -1,4 +1,4 @@
-/* A strip from a stream, a strip of a filing, and the window's call on it, for the programs of this folder. */
+/* A strip from a stream, a strip of a filing, and its answers by the window's call and by the independent search, for the programs of this folder. */
 #ifndef FILES_HPP
 #define FILES_HPP
 
@@ -8,7 +8,7 @@
 #include "search.hpp"
 #include "window.h"
 
-enum { STRIP_LIMIT = 16384, PLAN_SIZE = 256, RECEIPT_SIZE = 16 };
+enum { STRIP_LIMIT = 16384, PLAN_SIZE = 256, RECEIPT_SIZE = 16, UNTOUCHED = 0xAA };
 
 inline std::vector<uint8_t> read_strip(FILE *in) {
     std::vector<uint8_t> strip(STRIP_LIMIT);
@@ -31,18 +31,32 @@ inline std::vector<uint8_t> strip_of(const own::Filing &f) {
     return s;
 }
 
-/* Number, count and plan by the window's call. */
+/* Number, place, count and plan by the window's call. */
 inline own::Answer by_window(const std::vector<uint8_t> &strip, int n, uint32_t allowance) {
     own::Answer a;
     uint8_t plan[PLAN_SIZE], receipt[RECEIPT_SIZE];
+    memset(plan, UNTOUCHED, sizeof plan);
     a.number = (int)window(strip.data(), strip.size(), allowance, plan, sizeof plan, receipt, sizeof receipt);
+    for (int i = 4; i < 8; i++) a.place = a.place << 8 | receipt[i];
     for (int i = 8; i < 12; i++) a.count = a.count << 8 | receipt[i];
     a.plan.assign(plan, plan + n);
     return a;
 }
 
+/* The same and the trail by the independent search, of a strip that is good or leaves a placement unnamed, which is found at its end mark. */
+inline own::Answer by_own(const std::vector<uint8_t> &strip, uint32_t allowance) {
+    own::Filing f = own::parse(strip.data(), strip.size());
+    if (own::names_all(f)) return own::search(f, allowance);
+    own::Answer a;
+    a.number = own::UNNAMED;
+    a.place = (uint32_t)strip.size() - 1;
+    a.plan.assign((size_t)f.n, UNTOUCHED);
+    return a;
+}
+
 /* What the layout program prints of an answer. */
 inline std::string printed(const own::Answer &a) {
+    if (a.number == own::UNNAMED) return "refused 26 " + std::to_string(a.place) + "\n";
     std::string s = a.number == own::LAID_OUT ? "laid out" : a.number == own::NO_LAYOUT ? "no layout" : "stopped";
     s += "\ncount " + std::to_string(a.count) + "\n";
     if (a.number != own::LAID_OUT) return s;

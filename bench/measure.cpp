@@ -42,7 +42,11 @@ static bool measure(const char *path, uint32_t allowance, double most) {
     std::vector<uint8_t> strip = read_strip(in);
     fclose(in);
     own::Filing f = own::parse(strip.data(), strip.size());
-    own::Answer whole = own::search(f, allowance);
+    own::Answer whole = by_own(strip, allowance);
+    if (whole.number == own::UNNAMED) {
+        fprintf(stderr, "%s: refused, a placement stands in no entry\n", path);
+        return false;
+    }
     uint32_t at = 16, count = whole.count;
     own::Answer by_library;
     for (;;) { /* four times the splits, as long as that is sure to end in time */
@@ -52,10 +56,10 @@ static bool measure(const char *path, uint32_t allowance, double most) {
         if (by_library.number != own::STOPPED || at == allowance || (seconds() - start) * 5 > most) break;
         at = at > allowance / 4 ? allowance : at * 4;
     }
-    own::Answer a = own::search(f, at);
+    own::Answer a = by_own(strip, at);
     bool same = a.number == by_library.number && a.count == by_library.count && a.plan == by_library.plan;
     double library = best([&] { by_window(strip, f.n, at); });
-    double independent = best([&] { own::search(own::parse(strip.data(), strip.size()), at); });
+    double independent = best([&] { by_own(strip, at); });
     size_t groups = (size_t)std::count(f.table.begin(), f.table.end(), 0);
     printf("%s %d %zu %zu %d %u %u %u %.9f %.9f %s\n", path, f.n, groups, f.table.size() - groups, whole.number, count, at, a.count, library, independent,
         same ? "same" : "DIFFERS");

@@ -1,8 +1,8 @@
-/* The independent search as a program beside the layout program: a good strip from standard input, the same lines to standard output. */
+/* The independent search as a program beside the layout program: a strip as by_own takes it from standard input, the same lines to standard output. */
 #include "files.hpp"
 
 int main() {
     std::vector<uint8_t> strip = read_strip(stdin);
-    fputs(printed(own::search(own::parse(strip.data(), strip.size()), 1000000)).c_str(), stdout);
+    fputs(printed(by_own(strip, 1000000)).c_str(), stdout);
     return 0;
 }

@@ -50,7 +50,7 @@ while [ $# -gt 0 ]; do
         words+=("$1" "$(cd "$caller" && realpath "$2")")
         shift
         ;;
-    --*=* | --named) words+=("$1") ;;
+    --*=*) words+=("$1") ;;
     --*)
         words+=("$1" "$2")
         shift
