@@ -23,7 +23,7 @@ all-noted-spec =
     μ-loop
     (λ c. λ j h. absurd (omega arith))
     (λ c. record { fits = omega (arith, within c) })
-    (λ c. within c)
+    (λ c. omega (arith, within c))
     (λ c t w.
     let l = c .before .before .before in
     let a = l .before .args in
