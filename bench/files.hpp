@@ -18,7 +18,9 @@ inline std::vector<uint8_t> read_strip(FILE *in) {
 
 inline std::vector<uint8_t> strip_of(const own::Filing &f) {
     std::vector<uint8_t> s;
-    auto put = [&](int mark, int operand) { s.insert(s.end(), {(uint8_t)mark, (uint8_t)(operand / 256), (uint8_t)(operand % 256)}); };
+    auto put = [&](int mark, int operand) {
+        for (int byte : {mark, operand / 256, operand % 256}) s.push_back((uint8_t)byte);
+    };
     put('P', f.n);
     bool inside = false;
     for (int e : f.table) {
