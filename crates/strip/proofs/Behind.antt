@@ -161,7 +161,7 @@ module _ (s : List ℕ) where
             clause = [];
             strip = λ n c l h. past Closes v bytes _ ∙ w .strip n [] l h ∙ rw (append-nil (w .clause), append-assoc (w .items) (group (w .clause) ∷ []) l);
             table = ap (λ (x : List ℤ). x ++ (pos 0 ∷ [])) (w .table)
-            ∙ rw (last, tables-append f (w .clause ∷ []), append-assoc (tableOf f) (map entryOf (w .clause)) (pos 0 ∷ []), append-nil (tableOf f ++ (map entryOf (w .clause) ++ (pos 0 ∷ []))));
+                ∙ rw (last, tables-append f (w .clause ∷ []), append-assoc (tableOf f) (map entryOf (w .clause)) (pos 0 ∷ []), append-nil (tableOf f ++ (map entryOf (w .clause) ++ (pos 0 ∷ []))));
             number = rw (last, length-append) (omega (arith, w .number));
             literals = rw (last, entries-append f (w .clause ∷ [])) (omega (arith, w .literals));
             known = λ n h. rw (last, h refl) (clause-last (p .variables) f (w .clause) (w .known (p .variables) (λ _. refl)) (w .known-open));

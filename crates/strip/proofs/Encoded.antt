@@ -47,22 +47,22 @@ module _ (s : List ℕ) (room : ℕ) (b : Bytes s) (n : ℕ) (T : List ℤ) (fit
   answer = judged s n T
 
   -- after the end mark every placement was named
-  abbrev Ended : Turn → Type 0
-  Ended u = same u After ≡ true → Mentioned n T
+  abbrev Past : Turn → Type 0
+  Past u = same u After ≡ true → Mentioned n T
 
-  not-ended : (u : Turn) → same u After ≡ false → Ended u
-  not-ended u e z = absurd (true-not-false z e)
+  not-past : (u : Turn) → same u After ≡ false → Past u
+  not-past u e z = absurd (true-not-false z e)
 
   stored-fits : (go : List ℤ → Decoding) (i : ℕ) (t : List ℤ) (x : Stored) → length (with t x) ≤ room → storing s room go i t x ≡ go (with t x)
   stored-fits go i t Nothing h = refl
   stored-fits go i t (Element x) h = rw (lt-ltb (length t) room (omega (arith, length-append t (x ∷ []))))
 
   module _ (k i : ℕ) (p : Progress) (t : List ℤ) (here : i ≤ length s) (enough : length s < i + suc k)
-      (ih : (j : ℕ) (q : Progress) (t′ : List ℤ) → j ≤ length s → length s < j + k → Left s j (q .turn) q t′ n T → Ended (q .turn) → readFrom mentionsAll s room k j q t′ ≡ answer) where
+      (ih : (j : ℕ) (q : Progress) (t′ : List ℤ) → j ≤ length s → length s < j + k → Left s j (q .turn) q t′ n T → Past (q .turn) → readFrom mentionsAll s room k j q t′ ≡ answer) where
     -- a command, and the strip after it
     on : (m : Mark) (v : ℕ) (rest : List ℕ) → drop i s ≡ commandBytes m v ++ rest → p .turn ≡ turnOf m → (q : Progress) (x : Stored) →
         obey p (mentionsAll (p .variables) t) (operandAt s i (operandBytes m)) m ≡ Goes q x → Left s (i + 1 + operandBytes m) (q .turn) q (with t x) n T →
-        Ended (q .turn) → readFrom mentionsAll s room (suc k) i p t ≡ answer
+        Past (q .turn) → readFrom mentionsAll s room (suc k) i p t ≡ answer
     unfolding readFrom
     on m v rest e u q x o a w =
         let l : i + 1 + operandBytes m ≤ length s = bytes-long s i m v rest e in
@@ -94,7 +94,7 @@ module _ (s : List ℕ) (room : ℕ) (b : Bytes s) (n : ℕ) (T : List ℤ) (fit
     outside u v (chapter x ∷ l) e q a = on Chapter x (itemBytes l) e u p Nothing refl
         (subst (λ (w : Turn). Left s (i + 1 + 1) w p t n T) (sym u)
         (record { clause = []; items = l; strip = λ y. bytes-rest s i Chapter x (itemBytes l) e; table = q; variables = λ z. v; allows = a }))
-        (not-ended (p .turn) (rw u))
+        (not-past (p .turn) (rw u))
     outside u v (group c ∷ l) e q a = on Opens 0 _ e u (progress Inside (p .variables) (p .clauses + 1) (p .literals)) Nothing
         (rw (lt-ltb (p .clauses) maxClauses (omega (arith, a .clauses))))
         (record {
@@ -105,7 +105,7 @@ module _ (s : List ℕ) (room : ℕ) (b : Bytes s) (n : ℕ) (T : List ℤ) (fit
           variables = λ z. v;
           allows = record { variables = a .variables; clauses = omega (arith, a .clauses); literals = a .literals; known = a .known };
         })
-        (not-ended Inside refl)
+        (not-past Inside refl)
 
     -- an entry of the open group, and the rest of it
     module _ (v : n ≡ p .variables) (x : Literal) (c : Clause) (l : List Item) (a : Allows 1 n (p .clauses) (p .literals) ((x ∷ c) ∷ groups l)) where
@@ -146,26 +146,26 @@ module _ (s : List ℕ) (room : ℕ) (b : Bytes s) (n : ℕ) (T : List ℤ) (fit
           variables = λ z. v;
           allows = record { variables = a .variables; clauses = omega (arith, a .clauses); literals = omega (arith, a .literals); known = λ d k m. a .known d k (List·Memᴰ·tail m) };
         })
-        (not-ended Outside refl)
+        (not-past Outside refl)
     inside u v (Pos w ∷ c) l e q a = on Taken w _ e u (further v (Pos w) c l a) (Element (entryOf (Pos w)))
-        (rw (word-at s i _ w _ e) (goes-on v (Pos w) c l a)) (rest-left v (Pos w) c l a _ (bytes-rest s i Taken w _ e) q) (not-ended Inside refl)
+        (rw (word-at s i _ w _ e) (goes-on v (Pos w) c l a)) (rest-left v (Pos w) c l a _ (bytes-rest s i Taken w _ e) q) (not-past Inside refl)
     inside u v (Neg w ∷ c) l e q a = on LeftOut w _ e u (further v (Neg w) c l a) (Element (entryOf (Neg w)))
-        (rw (word-at s i _ w _ e) (goes-on v (Neg w) c l a)) (rest-left v (Neg w) c l a _ (bytes-rest s i LeftOut w _ e) q) (not-ended Inside refl)
+        (rw (word-at s i _ w _ e) (goes-on v (Neg w) c l a)) (rest-left v (Neg w) c l a _ (bytes-rest s i LeftOut w _ e) q) (not-past Inside refl)
 
-    by-turn : (u : Turn) → p .turn ≡ u → Left s i u p t n T → Ended u → readFrom mentionsAll s room (suc k) i p t ≡ answer
+    by-turn : (u : Turn) → p .turn ≡ u → Left s i u p t n T → Past u → readFrom mentionsAll s room (suc k) i p t ≡ answer
     unfolding readFrom obey tableOf
     by-turn Start u a w =
         let e = a .strip b in
         on Placements n _ e u (progress Outside n (p .clauses) (p .literals)) Nothing
         (rw (word-at s i _ n _ e, le-ltb maxVariables n (a .allows .variables)))
-        (record { clause = []; items = a .items; strip = λ y. bytes-rest s i Placements n _ e; table = a .table; variables = λ z. refl; allows = a .allows }) (not-ended Outside refl)
+        (record { clause = []; items = a .items; strip = λ y. bytes-rest s i Placements n _ e; table = a .table; variables = λ z. refl; allows = a .allows }) (not-past Outside refl)
     by-turn Outside u a w = outside u (a .variables refl) (a .items) (a .strip b) (a .table) (a .allows)
     by-turn Inside u a w = inside u (a .variables refl) (a .clause) (a .items) (a .strip b) (a .table) (a .allows)
     by-turn After u a w =
         let q : T ≡ t = a .table ∙ append-nil t in
         rw (le-ltb i (length s) (omega (arith, length-drop i s, ap length (a .strip b))), u, w refl, q, a .variables refl)
 
-  pub left-reads : (k i : ℕ) (p : Progress) (t : List ℤ) → i ≤ length s → length s < i + k → Left s i (p .turn) p t n T → Ended (p .turn) →
+  pub left-reads : (k i : ℕ) (p : Progress) (t : List ℤ) → i ≤ length s → length s < i + k → Left s i (p .turn) p t n T → Past (p .turn) →
       readFrom mentionsAll s room k i p t ≡ answer
   left-reads zero i p t h g a w = absurd (omega arith)
   left-reads (suc k) i p t h g a w = by-turn k i p t h g (left-reads k) (p .turn) refl a w

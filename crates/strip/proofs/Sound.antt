@@ -109,8 +109,7 @@ module _ (s : List ℕ) (i next : ℕ) (p : Progress) (t : List ℤ) (d : Sound 
       (λ k. (
         record { variables = d .variables; clauses = d .clauses; literals = omega (arith, ltb-true (p .literals) maxLiterals k); elements = omega (arith, rw e at (d .elements)) },
         λ n T a.
-            let v = known-variable (p .variables) (var l) b in
-            (
+            let v = known-variable (p .variables) (var l) b in (
               record {
                 clause = l ∷ a .clause;
                 items = a .items;

@@ -16,7 +16,7 @@ use Rattle.literal.specs.declared.Literal.the-variants.{Pos, Neg}
 use Rattle.literal.specs.Literal.{var}
 use Rattle.theory.specs.Formula.{Clause, Formula, push, clauses}
 use Rattle.theory.specs.Table.{endsOpen, Accepted}
-use Rattle.theory.specs.Mentions.{mentions, mentionsAll, Mentioned, Stands, AllStand}
+use Rattle.theory.specs.Mentions.{mentions, mentionsAll, Mentioned, StandsIn, AllStand}
 use Rattle.theory.proofs.Tables.{first-clause, accepted-closed}
 
 -- placement by placement ----------------------------------------------------------------------------------------------
@@ -40,17 +40,17 @@ one-missing n t p o b e = ⊎-elim (λ h. absurd (true-not-false (mentioned-each
 -- groups --------------------------------------------------------------------------------------------------------------
 
 -- in a formula with a literal more in its first clause
-push-first : (l : Literal) (f g : Formula) (c : Clause) → f ≡ c ∷ g → Stands (push l f) (var l)
+push-first : (l : Literal) (f g : Formula) (c : Clause) → f ≡ c ∷ g → StandsIn (push l f) (var l)
 push-first l f g c e = rw e (record { clause = l ∷ c; literal = l; of-formula = List·Memᴰ·head refl; of-clause = List·Memᴰ·head refl; is = refl })
 
-push-stands : (l : Literal) (f : Formula) (p : ℕ) → Stands f p → Stands (push l f) p
+push-stands : (l : Literal) (f : Formula) (p : ℕ) → StandsIn f p → StandsIn (push l f) p
 push-stands l [] p w = absurd (List·Memᴰ·not-nil (w .of-formula))
 push-stands l (c ∷ f) p w = ⊎-elim
     (λ (q : w .clause ≡ c). record { clause = l ∷ c; literal = w .literal; of-formula = List·Memᴰ·head refl; of-clause = List·Memᴰ·tail (rw q at (w .of-clause)); is = w .is })
     (λ m. record { clause = w .clause; literal = w .literal; of-formula = List·Memᴰ·tail m; of-clause = w .of-clause; is = w .is })
     (List·Memᴰ·cases-cons (w .of-formula))
 
-stands-push : (l : Literal) (f : Formula) (p : ℕ) → Stands (push l f) p → (var l ≡ p) ⊎ Stands f p
+stands-push : (l : Literal) (f : Formula) (p : ℕ) → StandsIn (push l f) p → (var l ≡ p) ⊎ StandsIn f p
 stands-push l [] p w = inr w
 stands-push l (c ∷ f) p w = ⊎-elim
     (λ (q : w .clause ≡ l ∷ c). ⊎-elim
@@ -61,10 +61,10 @@ stands-push l (c ∷ f) p w = ⊎-elim
     (List·Memᴰ·cases-cons (w .of-formula))
 
 -- and with an empty clause in front
-skip-stands : (f : Formula) (p : ℕ) → Stands f p → Stands ([] ∷ f) p
+skip-stands : (f : Formula) (p : ℕ) → StandsIn f p → StandsIn ([] ∷ f) p
 skip-stands f p w = record { clause = w .clause; literal = w .literal; of-formula = List·Memᴰ·tail (w .of-formula); of-clause = w .of-clause; is = w .is }
 
-stands-skip : (f : Formula) (p : ℕ) → Stands ([] ∷ f) p → Stands f p
+stands-skip : (f : Formula) (p : ℕ) → StandsIn ([] ∷ f) p → StandsIn f p
 stands-skip f p w = ⊎-elim
     (λ (q : w .clause ≡ []). absurd (List·Memᴰ·not-nil (rw q at (w .of-clause))))
     (λ m. record { clause = w .clause; literal = w .literal; of-formula = m; of-clause = w .of-clause; is = w .is })
@@ -73,7 +73,7 @@ stands-skip f p w = ⊎-elim
 -- tables --------------------------------------------------------------------------------------------------------------
 
 -- b says whether the element before is an entry
-mentions-stands : (b : Bool) (t : List ℤ) → endsOpen b t ≡ false → (p : ℕ) → 0 < p → mentions t p ≡ true → Stands (clauses t) p
+mentions-stands : (b : Bool) (t : List ℤ) → endsOpen b t ≡ false → (p : ℕ) → 0 < p → mentions t p ≡ true → StandsIn (clauses t) p
 unfolding endsOpen clauses any
 mentions-stands b [] h p o e = absurd (true-not-false e refl)
 mentions-stands b (posℤ zero ∷ t) h p o e = skip-stands (clauses t) p (mentions-stands false t h p o (⊎-elim (λ q. absurd (omega (arith, eqb-true 0 p q))) (λ q. q) (or-true (eqb 0 p) (mentions t p) e)))
@@ -88,7 +88,7 @@ mentions-stands b (negsuc q ∷ t) h p o e =
     ⊎-elim (λ z. rw (← eqb-true (suc q) p z) (push-first (Neg (suc q)) (clauses t) (w .1) (w .0) (w .2)))
     (λ z. push-stands (Neg (suc q)) (clauses t) p (mentions-stands true t k p o z)) (or-true (eqb (suc q) p) (mentions t p) e)
 
-stands-mentions : (t : List ℤ) (p : ℕ) → Stands (clauses t) p → mentions t p ≡ true
+stands-mentions : (t : List ℤ) (p : ℕ) → StandsIn (clauses t) p → mentions t p ≡ true
 unfolding clauses any
 stands-mentions [] p w = absurd (List·Memᴰ·not-nil (w .of-formula))
 stands-mentions (posℤ zero ∷ t) p w = or-right (eqb 0 p) (stands-mentions t p (stands-skip (clauses t) p w))

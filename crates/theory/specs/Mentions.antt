@@ -23,7 +23,7 @@ abbrev pub Mentioned : ℕ → List ℤ → Type 0
 Mentioned n t = mentionsAll n t ≡ true
 
 -- the same of a formula: a placement stands in a group
-pub record Stands (f : Formula) (p : ℕ) : Type 0 where
+pub record StandsIn (f : Formula) (p : ℕ) : Type 0 where
   pub clause : Clause
   pub literal : Literal
   pub of-formula : List·Memᴰ clause f
@@ -31,4 +31,4 @@ pub record Stands (f : Formula) (p : ℕ) : Type 0 where
   pub is : var literal ≡ p
 
 abbrev pub AllStand : ℕ → Formula → Type 0
-AllStand n f = (p : ℕ) → 0 < p → p ≤ n → Stands f p
+AllStand n f = (p : ℕ) → 0 < p → p ≤ n → StandsIn f p
