@@ -17,6 +17,10 @@ bool-cases false = inr refl
 pub true-not-false : {b : Bool} → b ≡ true → b ≡ false → ⊥
 true-not-false p q = let z : _≡_ {A = Bool} true false = cc in let w : _≡_ {A = ℕ} 0 1 = cc in omega arith
 
+pub false-unless : (b : Bool) → ¬ (b ≡ true) → b ≡ false
+false-unless true h = absurd (h refl)
+false-unless false h = refl
+
 pub bit-not : (b : Bool) → bit b + bit (not b) ≡ 1
 bit-not true = refl
 bit-not false = refl

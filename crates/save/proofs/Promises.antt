@@ -1,8 +1,7 @@
 -- What a call of Save promises, by its receipt and the strip buffer after it; and that Save and Read bring each other back.
 -- All of it follows from the equations that `save` and `read` ensure.
 use mathlib.Core.Path.{_≡_, refl, ap, sym, subst, _∙_}
-use mathlib.Core.Bool.{false}
-use mathlib.Core.Logic.{_↔_, _≢_, ⊎-elim}
+use mathlib.Core.Logic.{_↔_, _≢_}
 use mathlib.Core.List.{List}
 use Prim.Native.Nat.{ℕ, _≤_, _<_}
 use native.Mathlib.Omega.{arith}
@@ -11,7 +10,7 @@ use lib.Dec.{ltb}
 use lib.IntN.{ℤ}
 use lib.ListN.{length, take, drop}
 use lib.Seq.{take-at, drop-at}
-use Rattle.general.specs.Booleans.{bool-cases, true-not-false, cond-ind}
+use Rattle.general.specs.Booleans.{true-not-false, false-unless, cond-ind}
 use Rattle.receipt.specs.Receipt.{numberOf, done, receipt, refusal}
 use Rattle.receipt.specs.Answers.{savingReceipt, readingReceipt, readLength}
 use Rattle.receipt.specs.declared.Checked.{Checked}
@@ -97,8 +96,7 @@ module _ {n : ℕ} {t : List ℤ} {s : List ℕ} {r : Saving} {s′ : List ℕ} 
   unfolding saveCall
   save-unmentioned w h =
       let a : Accepted n t = accepted-exactly n t .1 w in
-      let m : mentionsAll n t ≡ false = ⊎-elim (λ z. absurd (h z)) (λ z. z) (bool-cases (mentionsAll n t)) in
-      ap (λ (k : SaveCall). k .answer) (c .is) ∙ rw (a, m)
+      ap (λ (k : SaveCall). k .answer) (c .is) ∙ rw (a, false-unless (mentionsAll n t) h)
 
   -- "then 25, strip room short"
   pub save-strip-short : WithinLimits n t → Mentioned n t → length s < savedLength (zeros t) (nonzeros t) → r ≡ Refused (refusal StripShort 0)

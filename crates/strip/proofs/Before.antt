@@ -1,9 +1,9 @@
 -- A3 beside document 01: a strip reads as it did before, but where the end mark stands before a placement was named.
 use mathlib.Core.Path.{_≡_, refl, ap, sym, _∙_}
 use mathlib.Core.Bool.{Bool, true, false, cond}
-use mathlib.Core.Logic.{_≢_, _↔_}
+use mathlib.Core.Logic.{_≢_}
 use mathlib.Core.List.{List, [], _∷_, _++_}
-use Prim.Native.Nat.{ℕ, zero, suc, _≤_}
+use Prim.Native.Nat.{ℕ, zero, suc}
 use native.Mathlib.Omega.{arith}
 use lib.Dec.{ltb}
 use lib.IntN.{ℤ}
@@ -24,7 +24,7 @@ use Rattle.theory.specs.declared.Obeyed.{Obeyed}
 use Rattle.theory.specs.declared.Obeyed.the-variants as obeyed
 use Rattle.theory.specs.declared.Stored.the-variants.{Nothing, Element}
 use Rattle.theory.specs.Mentions.{mentionsAll, Mentioned}
-use Rattle.theory.specs.Strip.{turnOf, same, progress, nothingRead, ended, obey, Decoding, notRead, storing, onward, follow, finish, EndRule, readFrom, commandAt, maxStrip, readBy, readStrip, readFreely}
+use Rattle.theory.specs.Strip.{turnOf, same, progress, nothingRead, ended, obey, Decoding, notRead, onward, follow, finish, EndRule, readFrom, commandAt, maxStrip, readBy, readStrip, readFreely}
 use Rattle.reader.proofs.Commands.{Says, command-says}
 
 -- document 01's rule

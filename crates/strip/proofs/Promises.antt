@@ -1,7 +1,6 @@
 -- What a call of Read promises (demand 1): `called r t′ ≡ readCall s t` is what `read` ensures of its answer r and of the table t′ after it.
 use mathlib.Core.Path.{_≡_, refl, ap, sym, _∙_}
-use mathlib.Core.Bool.{false}
-use mathlib.Core.Logic.{_↔_, _≢_, ⊎-elim}
+use mathlib.Core.Logic.{_↔_, _≢_}
 use mathlib.Core.List.{List, []}
 use Prim.Native.Nat.{ℕ, suc, _-_, _≤_, _<_}
 use native.Mathlib.Omega.{arith}
@@ -9,7 +8,7 @@ use borrow.Author.Tests.{lt-ltb, le-ltb}
 use lib.IntN.{ℤ}
 use lib.ListN.{length, take}
 use lib.Seq.{take-at}
-use Rattle.general.specs.Booleans.{bool-cases, true-not-false}
+use Rattle.general.specs.Booleans.{true-not-false, false-unless}
 use Rattle.receipt.specs.declared.Fault.the-variants.{StripTooLong, UnmentionedVariable}
 use Rattle.receipt.specs.declared.Refusal.{Refusal}
 use Rattle.receipt.specs.declared.Reading.{Reading}
@@ -136,8 +135,7 @@ module _ (s : List ℕ) (t : List ℤ) (r : Reading) (t′ : List ℤ) (is : cal
   pub unmentioned-refused : Bytes s → (n : ℕ) (l : List Item) → StripLimits s n l → length (tableOf (groups l)) ≤ length t → ¬ Mentioned n (tableOf (groups l)) →
       r ≡ Refused (refusal UnmentionedVariable (length s - 1))
   unmentioned-refused b n l w fits h =
-      let e : mentionsAll n (tableOf (groups l)) ≡ false = ⊎-elim (λ z. absurd (h z)) (λ z. z) (bool-cases (mentionsAll n (tableOf (groups l)))) in
-      reading-is ∙ rw e at (ap (λ (d : Decoding). d .reading) (limits-read s b (length t) n l w fits))
+      reading-is ∙ rw (false-unless (mentionsAll n (tableOf (groups l))) h) at (ap (λ (d : Decoding). d .reading) (limits-read s b (length t) n l w fits))
 
   -- no placement is left out "for want of a rule": each stands in a group of the table that was read
   pub read-mentions-all : (n u : ℕ) → r ≡ Read n u → AllStand n (clauses (take u t′))

@@ -8,8 +8,8 @@ use native.Mathlib.Decide.{ℕ-discrete as decEq}
 use native.Mathlib.Omega.{arith}
 use borrow.Author.Tests.{eqb-true, eq-eqb}
 use lib.Dec.{eqb, eqb·suc-zero}
-use lib.IntN.{ℤ, negsuc, natAbs, pos as posℤ}
-use Rattle.general.specs.Booleans.{bool-cases, true-not-false, and-true, and-intro, or-left, or-true, or-right}
+use lib.IntN.{ℤ, negsuc, pos as posℤ}
+use Rattle.general.specs.Booleans.{true-not-false, false-unless, and-true, and-intro, or-left, or-true, or-right}
 use Rattle.general.specs.Search.{any}
 use Rattle.literal.specs.declared.Literal.{Literal}
 use Rattle.literal.specs.declared.Literal.the-variants.{Pos, Neg}
@@ -35,7 +35,7 @@ each-mentioned (suc n) t h = and-intro (each-mentioned n t (λ p o b. h p o (ome
 
 -- one is enough that is not named
 pub one-missing : (n : ℕ) (t : List ℤ) (p : ℕ) → 0 < p → p ≤ n → mentions t p ≡ false → mentionsAll n t ≡ false
-one-missing n t p o b e = ⊎-elim (λ h. absurd (true-not-false (mentioned-each n t h p o b) e)) (λ h. h) (bool-cases (mentionsAll n t))
+one-missing n t p o b e = false-unless (mentionsAll n t) (λ h. true-not-false (mentioned-each n t h p o b) e)
 
 -- groups --------------------------------------------------------------------------------------------------------------
 

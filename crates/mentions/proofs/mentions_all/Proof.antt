@@ -1,5 +1,5 @@
 -- `mentions_all` meets its contract: after i elements the placements of the first i are noted.
-use mathlib.Core.Path.{_≡_, refl, sym, _∙_}
+use mathlib.Core.Path.{_≡_, refl, sym}
 use Prim.Native.Nat.{_-_, _<_}
 use borrow.Author.Needs.{needs}
 use native.Mathlib.Numerals.{add-one}
