@@ -69,7 +69,7 @@ fn unknown_adds() {
 }
 
 fn reads() {
-    read_eight(b"\x50\x00\x03\x47\x54\x00\x01\x4C\x00\x02\x45\x43\x07\x47\x45\x5A");
+    read_eight(b"\x50\x00\x02\x47\x54\x00\x01\x4C\x00\x02\x45\x43\x07\x47\x45\x5A");
     read_eight(b"\x50\x00\x00\x5A");
     read_eight(b"\x50\x01\x01\x5A");
     read_eight(b"\x50\x00\x02\x47\x54\x00\x03\x45\x5A");
@@ -80,8 +80,8 @@ fn reads() {
     read_eight(b"");
     read_eight(b"\x47\x45\x5A");
     read_eight(b"\x50\x00\x02\x54\x00");
-    read_eight(b"\x50\x00\x02\x5A\x5A");
-    read_eight(b"\x50\x00\x02\x5A\x00");
+    read_eight(b"\x50\x00\x00\x5A\x5A");
+    read_eight(b"\x50\x00\x00\x5A\x00");
 }
 
 // An unknown placement in the second or third group: taken and left out, above n and 0, with chapters before the groups and between them. The byte 47, which
@@ -103,10 +103,60 @@ fn short_reads() {
     read_four(b"\x50\x00\x03\x47\x54\x00\x01\x54\x00\x02\x45\x47\x54\x00\x03\x54\x00\x04\x45\x5A");
 }
 
+// Every placement is named: there are none; only as left out; beside its opposite; in a group after a chapter; in the last of three groups.
+fn named_reads() {
+    read_eight(b"\x50\x00\x00\x47\x45\x5A");
+    read_eight(b"\x50\x00\x01\x47\x4C\x00\x01\x45\x5A");
+    read_eight(b"\x50\x00\x02\x47\x54\x00\x01\x4C\x00\x02\x45\x5A");
+    read_eight(b"\x50\x00\x01\x47\x54\x00\x01\x4C\x00\x01\x45\x5A");
+    read_eight(b"\x50\x00\x02\x47\x54\x00\x01\x45\x43\x02\x47\x4C\x00\x02\x45\x5A");
+    read_eight(b"\x50\x00\x02\x47\x54\x00\x02\x45\x47\x45\x47\x54\x00\x01\x45\x5A");
+}
+
+// A placement is not named: any of two; the only one; the first, a middle one and the last; with another one twice, or beside its opposite, in its place; with its
+// number on a chapter only; all but placement 256.
+fn unnamed_reads() {
+    read_eight(b"\x50\x00\x02\x5A");
+    read_eight(b"\x50\x00\x01\x47\x45\x5A");
+    read_eight(b"\x50\x00\x03\x47\x54\x00\x02\x54\x00\x03\x45\x5A");
+    read_eight(b"\x50\x00\x04\x47\x54\x00\x01\x54\x00\x02\x4C\x00\x04\x45\x5A");
+    read_eight(b"\x50\x00\x03\x47\x54\x00\x01\x45\x47\x54\x00\x02\x45\x5A");
+    read_eight(b"\x50\x00\x02\x47\x54\x00\x01\x54\x00\x01\x45\x5A");
+    read_eight(b"\x50\x00\x02\x47\x54\x00\x02\x4C\x00\x02\x45\x5A");
+    read_eight(b"\x50\x00\x02\x47\x54\x00\x01\x45\x43\x02\x5A");
+    read_eight(b"\x50\x01\x00\x47\x54\x01\x00\x45\x5A");
+}
+
+// Beside other refusals: of the end mark itself, before the placements and in a group; of what stands after it, with a placement not named and with all; of an end
+// mark that is missing.
+fn unnamed_order() {
+    read_eight(b"\x5A");
+    read_eight(b"\x50\x00\x02\x47\x54\x00\x01\x5A");
+    read_eight(b"\x50\x00\x01\x5A\x47");
+    read_eight(b"\x50\x00\x01\x5A\xFF");
+    read_eight(b"\x50\x00\x01\x5A\x43");
+    read_eight(b"\x50\x00\x01\x47\x54\x00\x01\x45\x5A\x47");
+    read_eight(b"\x50\x00\x01\x47\x54\x00\x01\x45\x5A\xFF");
+    read_eight(b"\x50\x00\x01");
+    read_eight(b"\x50\x00\x02\x47\x54\x00\x01\x45");
+}
+
+// No room for the entry, none for the closing, and room.
+fn unnamed_short() {
+    let strip = b"\x50\x00\x02\x47\x54\x00\x01\x45\x5A";
+    try_read(strip, &mut [9i16; 0]);
+    try_read(strip, &mut [9i16; 1]);
+    try_read(strip, &mut [9i16; 2]);
+}
+
 fn main() {
     adds();
     unknown_adds();
     reads();
     unknown_reads();
     short_reads();
+    named_reads();
+    unnamed_reads();
+    unnamed_order();
+    unnamed_short();
 }

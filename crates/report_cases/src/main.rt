@@ -13,7 +13,7 @@ fn filings() {
     show(b"P\x00\x03GT\x00\x01T\x00\x02T\x00\x03EZ");
     show(b"P\x00\x00Z");
     show(b"P\x00\x02C\x01GT\x00\x01L\x00\x02EC\x02Z");
-    show(b"P\x00\x01GEZ");
+    show(b"P\x00\x01GT\x00\x01EGEZ");
     show(
         b"P\x00\x04GT\x00\x01T\x00\x02T\x00\x03EGT\x00\x01T\x00\x02T\x00\x04EGT\x00\x01T\x00\x03T\x00\x04EZ",
     );
@@ -21,7 +21,6 @@ fn filings() {
         b"P\x00\x04GT\x00\x01T\x00\x02T\x00\x03EGT\x00\x01T\x00\x02T\x00\x04EGT\x00\x01T\x00\x03T\x00\x04EGT\x00\x02T\x00\x03T\x00\x04EZ",
     );
     show(b"P\x00\x06GT\x00\x01T\x00\x02T\x00\x03EGT\x00\x04T\x00\x05T\x00\x06EZ");
-    show(b"P\x01\x00GT\x00\xfeT\x00\xffT\x01\x00EZ");
 }
 
 fn refusals() {
@@ -36,8 +35,8 @@ fn refusals() {
     show(b"GEZ");
     show(b"P\x00\x01P\x00\x01Z");
     show(b"P\x00\x01GZ");
-    show(b"P\x00\x01Z\x00");
-    show(b"P\x00\x01ZZ");
+    show(b"P\x00\x00Z\x00");
+    show(b"P\x00\x00ZZ");
 }
 
 // An unknown placement in a later group: after chapters, after groups with nothing in them, and a 0; then another refusal there.
@@ -46,6 +45,16 @@ fn unknowns() {
     show(b"P\x00\x01GEGEGT\x00\x09EZ");
     show(b"P\x00\x01GECGGL\x00\x00EZ");
     show(b"P\x00\x01GEGZ");
+}
+
+// A placement that no group names, with nothing after the end, and with a byte there.
+fn unnamed() {
+    show(b"P\x00\x01Z");
+    show(b"P\x00\x01Z\x00");
+    show(b"P\x00\x01ZZ");
+    show(b"P\x00\x01GEZ");
+    show(b"P\x00\x02GT\x00\x01EZ");
+    show(b"P\x00\x02GT\x00\x01L\x00\x01EZ");
 }
 
 // The rest of the strip repeats a part.
@@ -57,6 +66,28 @@ fn repeat(strip: &mut [u8], from: usize, part: &[u8])
         strip[i] = part[k];
         k = if k + 1 < part.len() { k + 1 } else { 0 };
     }
+}
+
+// A group leaves out placement 1, the next one placement 2, and so on up to 253.
+fn number(strip: &mut [u8])
+    requires { ⌜ 1267 < length (now strip) ⌝ }
+{
+    for i in 0..253 {
+        strip[5 * i + 6] = (i + 1) as u8;
+    }
+}
+
+// 256 placements, each in a group; then the first group leaves out placement 2 as well.
+fn placements() {
+    let mut all = [0u8; 1280];
+    all[0] = b'P';
+    all[1] = 1;
+    repeat(&mut all, 3, b"GL\x00\x00E");
+    number(&mut all);
+    repeat(&mut all, 1268, b"GT\x00\xfeT\x00\xffT\x01\x00EZ");
+    show(&all);
+    all[6] = 2;
+    show(&all);
 }
 
 // 512 groups, with chapters between them, one more, and an unknown placement in the 512th.
@@ -103,6 +134,8 @@ fn main() {
     filings();
     refusals();
     unknowns();
+    unnamed();
+    placements();
     groups();
     entries();
     lengths();

@@ -1,4 +1,4 @@
-// A strip with bytes cut, doubled, changed or inserted.
+// A strip with bytes cut, doubled, changed, inserted or after its end.
 use super::lists::byte_at;
 use super::lists::put_byte;
 use super::random::below;
@@ -108,4 +108,10 @@ pub fn damaged(strip: &[u8], out: &mut [u8], seed: &mut u64) -> usize {
         Damage::CutShort | Damage::Removed | Damage::Doubled => {}
     }
     length
+}
+
+// Writes the strip with a byte after its end and answers the length.
+pub fn trailed(strip: &[u8], out: &mut [u8], seed: &mut u64) -> usize {
+    let end = copy(strip, shift_of(Damage::Changed, strip.len(), 0, 0), out);
+    put_byte(out, end, any_byte(seed))
 }

@@ -95,6 +95,16 @@ pub fn size(entry: i16) -> usize {
     }
 }
 
+// Whether an entry of the list is of this variable.
+pub fn names(list: &[i16], variable: usize) -> bool {
+    for i in 0..list.len() {
+        if size(entry_at(list, i)) == variable {
+            return true;
+        }
+    }
+    false
+}
+
 // The entry of a variable below 32,768.
 pub fn signed(variable: usize, taken: bool) -> i16 {
     let entry = (variable % 32768) as i16;

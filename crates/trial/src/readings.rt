@@ -6,7 +6,9 @@ use super::lists::same_entries;
 use super::receipts::plain;
 use super::receipts::refusal;
 use super::receipts::same_receipt;
+use super::slow::Slow;
 use super::slow::read;
+use super::verdict::names_all;
 use receipt::Receipt;
 
 // What Read answers.
@@ -38,11 +40,8 @@ fn was_refused(receipt: Receipt) -> Answer {
     }
 }
 
-// With room for so many elements.
-pub fn expected(strip: &[u8], room: usize) -> Run {
-    let mut table = [9i16; ROOM];
-    let lent = at_most(room, ROOM);
-    let slow = read(strip, &mut table[0..lent]);
+// What the slow reader came to, and the table that it wrote.
+fn run_of(slow: Slow, table: [i16; ROOM]) -> Run {
     if slow.refused {
         return Run {
             answer: was_refused(refusal(slow.number, slow.place, slow.clause)),
@@ -55,10 +54,37 @@ pub fn expected(strip: &[u8], room: usize) -> Run {
     }
 }
 
+// With room for so many elements.
+pub fn expected(strip: &[u8], room: usize) -> Run {
+    let mut table = [9i16; ROOM];
+    let lent = at_most(room, ROOM);
+    let slow = read(strip, &mut table[0..lent], true);
+    run_of(slow, table)
+}
+
+// What a reader that is not strict came to; but where it went past the end mark, and the table that it wrote leaves a variable without an entry, 26 there.
+fn run_besides(slow: Slow, table: [i16; ROOM]) -> Run {
+    if slow.ended && !names_all(part(&table, 0, slow.used), slow.n) {
+        return Run {
+            answer: was_refused(refusal(26, slow.end, 0)),
+            table: [9i16; ROOM],
+        };
+    }
+    run_of(slow, table)
+}
+
+// The same as expected, found in another way.
+pub fn expected_besides(strip: &[u8], room: usize) -> Run {
+    let mut table = [9i16; ROOM];
+    let lent = at_most(room, ROOM);
+    let slow = read(strip, &mut table[0..lent], false);
+    run_besides(slow, table)
+}
+
 // How many elements there are up to the end or the refusal: with just this room, a refusal is nearest to another one.
 pub fn used_by(strip: &[u8]) -> usize {
     let mut table = [9i16; ROOM];
-    let slow = read(strip, &mut table);
+    let slow = read(strip, &mut table, true);
     slow.used
 }
 

@@ -1,5 +1,8 @@
 // A slow reader of strips: one pass, byte after byte, which knows no command but the one that it is in.
 use super::lists::byte_at;
+use super::lists::more;
+use super::lists::names;
+use super::lists::part;
 use super::lists::put_entry;
 use super::lists::signed;
 use super::verdict::MAX_CLAUSES;
@@ -8,8 +11,9 @@ use super::verdict::MAX_VARIABLES;
 use super::writer::MAX_STRIP;
 
 // What is known after a byte: whether the strip is refused, with number, place and clause (0 but for 5); the command, its place and the bytes of its operand that
-// are still to come; and what was read.
+// are still to come; and what was read: how many variables are named, and where the end mark stands. A strict reader refuses where a variable isn't named.
 pub struct Slow {
+    strict: bool,
     pub refused: bool,
     pub number: u32,
     pub place: usize,
@@ -19,10 +23,12 @@ pub struct Slow {
     value: usize,
     started: bool,
     inside: bool,
-    ended: bool,
+    pub ended: bool,
+    pub end: usize,
     pub n: usize,
     clauses: usize,
     literals: usize,
+    named: usize,
     pub used: usize,
 }
 
@@ -42,8 +48,9 @@ fn operand_bytes(mark: u8) -> u8 {
 }
 
 impl Slow {
-    fn new() -> Slow {
+    fn new(strict: bool) -> Slow {
         Slow {
+            strict,
             refused: false,
             number: 0,
             place: 0,
@@ -54,9 +61,11 @@ impl Slow {
             started: false,
             inside: false,
             ended: false,
+            end: 0,
             n: 0,
             clauses: 0,
             literals: 0,
+            named: 0,
             used: 0,
         }
     }
@@ -114,6 +123,14 @@ impl Slow {
         self
     }
 
+    // The variable of an entry is counted where no entry before is of it.
+    fn noted(mut self, table: &[i16]) -> Slow {
+        if !names(part(table, 0, self.used), self.value) {
+            self.named = more(self.named);
+        }
+        self
+    }
+
     fn entry(mut self, table: &mut [i16]) -> Slow {
         if self.value == 0 || self.n < self.value {
             return self.unknown();
@@ -122,7 +139,8 @@ impl Slow {
             return self.refuse(3);
         }
         self.literals = self.literals + 1;
-        self.store(table, signed(self.value, self.mark == b'T'))
+        let noted = self.noted(table);
+        noted.store(table, signed(self.value, self.mark == b'T'))
     }
 
     fn close(mut self, table: &mut [i16]) -> Slow {
@@ -130,18 +148,24 @@ impl Slow {
         self.store(table, 0)
     }
 
+    fn finish(mut self) -> Slow {
+        if self.strict && self.named < self.n {
+            return self.refuse(26);
+        }
+        self.ended = true;
+        self.end = self.place;
+        self
+    }
+
     // A whole command.
-    fn obey(mut self, table: &mut [i16]) -> Slow {
+    fn obey(self, table: &mut [i16]) -> Slow {
         let mark = self.mark;
         match mark {
             b'P' => self.placements(),
             b'G' => self.open(),
             b'T' | b'L' => self.entry(table),
             b'E' => self.close(table),
-            b'Z' => {
-                self.ended = true;
-                self
-            }
+            b'Z' => self.finish(),
             _ => self,
         }
     }
@@ -195,8 +219,8 @@ impl Slow {
     }
 }
 
-pub fn read(strip: &[u8], table: &mut [i16]) -> Slow {
-    let mut slow = Slow::new();
+pub fn read(strip: &[u8], table: &mut [i16], strict: bool) -> Slow {
+    let mut slow = Slow::new(strict);
     if MAX_STRIP < strip.len() {
         return slow.refuse(24);
     }

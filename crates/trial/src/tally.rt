@@ -6,7 +6,7 @@ use super::settled::forms_of;
 use std::num::wrapping_add_usize;
 
 // The numbers on the receipt are below this one.
-const NUMBERS: usize = 26;
+const NUMBERS: usize = 27;
 
 // How many answers of each number, how many that were not as expected, what an operation measures (the splits of a search, the bytes of a strip), added up and at
 // most, and what settled lists say.

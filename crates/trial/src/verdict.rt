@@ -1,6 +1,7 @@
 // Which tables are refused, with number, place and group, by counting each thing over the whole table.
 use super::lists::entry_at;
 use super::lists::more;
+use super::lists::names;
 use super::lists::part;
 use super::lists::size;
 use super::receipts::plain;
@@ -65,6 +66,25 @@ impl Verdict {
         }
     }
 
+    // Refused with 26 besides, where the table doesn't name every variable.
+    pub fn then_named(self, table: &[i16], n: usize) -> Verdict {
+        let verdict = self;
+        match verdict {
+            Verdict::Passes => {
+                if names_all(table, n) {
+                    Verdict::Passes
+                } else {
+                    refused(26)
+                }
+            }
+            Verdict::Refused {
+                number: _,
+                place: _,
+                clause: _,
+            } => verdict,
+        }
+    }
+
     // Refused with this number besides, where a lent list has less room than it needs.
     pub fn then_room(self, room: usize, need: usize, number: u32) -> Verdict {
         let verdict = self;
@@ -116,6 +136,16 @@ fn first_unknown(list: &[i16], n: usize, zero_allowed: bool) -> usize {
 // The clause that an index is in: one more than the zeros before it.
 fn clause_at(table: &[i16], i: usize) -> usize {
     more(count(part(table, 0, i), true))
+}
+
+// Whether no variable from 1 to n is without an entry.
+pub fn names_all(table: &[i16], n: usize) -> bool {
+    for i in 0..n {
+        if !names(table, i + 1) {
+            return false;
+        }
+    }
+    true
 }
 
 fn is_open(table: &[i16]) -> bool {

@@ -94,7 +94,7 @@ fn read_all() -> usize {
     show::text(b"read\n");
     let tally = tally_of(Operation::Read);
     tally.show(b"strips read", 16);
-    tally.show_refused(&[24u8, 20, 22, 21, 1, 5, 2, 3, 23]);
+    tally.show_refused(&[24u8, 20, 22, 21, 1, 5, 2, 3, 23, 26]);
     tally.show_strips(b"longest strip read");
     tally.show_disagreements();
     tally.disagreements
@@ -106,7 +106,7 @@ fn save_all() -> usize {
     let tally = tally_of(Operation::Save);
     tally.show(b"strips saved", 18);
     tally.show(b"read back", 16);
-    tally.show_refused(&[1u8, 2, 3, 4, 5, 25]);
+    tally.show_refused(&[1u8, 2, 3, 4, 5, 26, 25]);
     tally.show_strips(b"longest strip saved");
     tally.show_disagreements();
     tally.disagreements

@@ -1,6 +1,7 @@
-// Save beside a writer of strips that shares no definition with it; what was saved is read back, by Read and by the slow reader, and a strip without chapters, whole
-// or damaged, is read and saved again.
+// Save beside a writer of strips that shares no definition with it, on filings and on the same completed; what was saved is read back, by Read and by the slow
+// reader, and a strip without chapters, whole or damaged, is read and saved again.
 use receipt::Receipt;
+use trial::completed::completed;
 use trial::damage::damaged;
 use trial::formula::Formula;
 use trial::formula::ROOM;
@@ -101,12 +102,16 @@ fn saved(run: Run, table: &[i16], n: usize, tally: Tally) -> Tally {
     all.measured(length)
 }
 
-pub fn tried(table: &[i16], formula: Formula, seed: &mut u64, tally: Tally) -> Tally {
-    let n = formula.n;
+fn verdict_of(table: &[i16], n: usize, room: usize, length: usize) -> Verdict {
+    let checked = trial::verdict::of_table(table, n);
+    checked.then_named(table, n).then_room(room, length, 25)
+}
+
+fn saves(table: &[i16], n: usize, seed: &mut u64, tally: Tally) -> Tally {
     let mut out = [0u8; STRIP];
     let length = write_plain(table, n, &mut out);
     let room = room_of(seed, length, STRIP);
-    let verdict = trial::verdict::of_table(table, n).then_room(room, length, 25);
+    let verdict = verdict_of(table, n, room, length);
     let run = run_of(table, n, room);
     let right = is_right(run, verdict, first_bytes(&out, length));
     let all = tally.judged(run.receipt.number, right, table, n);
@@ -116,12 +121,28 @@ pub fn tried(table: &[i16], formula: Formula, seed: &mut u64, tally: Tally) -> T
     all
 }
 
+pub fn tried(table: &[i16], formula: Formula, seed: &mut u64, tally: Tally) -> Tally {
+    let n = formula.n;
+    let all = saves(table, n, seed, tally);
+    let mut other = [0i16; ROOM];
+    let used = completed(table, n, &mut other, seed);
+    saves(part(&other, 0, used), n, seed, all)
+}
+
 // Strips without chapters, whole and damaged, are read and saved.
-pub fn tried_again(table: &[i16], formula: Formula, seed: &mut u64, tally: Tally) -> Tally {
+fn saves_again(table: &[i16], n: usize, seed: &mut u64, tally: Tally) -> Tally {
     let mut out = [0u8; STRIP];
-    let length = write_plain(table, formula.n, &mut out);
+    let length = write_plain(table, n, &mut out);
     let strip = first_bytes(&out, length);
     let mut all = saved_again(strip, tally);
     all = saved_damaged(strip, seed, all);
     saved_damaged(strip, seed, all)
+}
+
+pub fn tried_again(table: &[i16], formula: Formula, seed: &mut u64, tally: Tally) -> Tally {
+    let n = formula.n;
+    let all = saves_again(table, n, seed, tally);
+    let mut other = [0i16; ROOM];
+    let used = completed(table, n, &mut other, seed);
+    saves_again(part(&other, 0, used), n, seed, all)
 }

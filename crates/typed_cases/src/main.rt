@@ -19,9 +19,10 @@ fn filings() {
     write(b"3 1 2 3 0\n");
     write(b"2 1 -2 0");
     write(b"\t2\r\n1\x0b-2\x0c0 \n");
-    write(b"1 -0");
+    write(b"0 -0");
     write(b"01 -001 000");
-    write(b"5 1 -5 0 0 2 0");
+    write(b"3 1 -3 0 0 2 0");
+    write(b"2 -1 -2 0");
 }
 
 // No number of placements, and words that are no numbers.
@@ -54,10 +55,19 @@ fn refused() {
     write(b"1 0 9");
 }
 
+// A placement that no group names.
+fn unnamed() {
+    write(b"2");
+    write(b"1 -0");
+    write(b"5 1 -5 0 0 2 0");
+    write(b"2 1 1 0");
+    write(b"256 256 0");
+}
+
 // 32,768 bytes, and one more.
 fn lengths() {
     let mut all = [b' '; 32768];
-    all[32767] = b'3';
+    all[32767] = b'0';
     write(&all);
     all[32767] = b'x';
     write(&all);
@@ -69,5 +79,6 @@ fn main() {
     filings();
     wrong();
     refused();
+    unnamed();
     lengths();
 }

@@ -7,10 +7,10 @@ use Rattle.trial.proofs.slow.read.Statement.{statement}
 use Rattle.trial.proofs.slow.read.Tie as tie
 
 abbrev Inv-loop : tie.InvT-loop
-Inv-loop strip table₀ slow₀ i₀ i-end table slow i = length table ≡ length table₀
+Inv-loop strip table₀ strict slow₀ i₀ i-end table slow i = length table ≡ length table₀
 
 abbrev μ-loop : tie.MeasureT-loop
-μ-loop strip table₀ slow₀ i₀ i-end table slow i = i-end - i
+μ-loop strip table₀ strict slow₀ i₀ i-end table slow i = i-end - i
 
 pub read-spec : {M : Type 1} → statement M
 read-spec =
