@@ -115,6 +115,12 @@ module _ {A : Type 0} where
   set-after zero e (y ∷ t) l h = refl
   set-after (suc d) e (y ∷ t) l h = ap (_∷_ y) (set-after d e t l (omega arith))
 
+  -- past the end
+  pub getD-past : (l : List A) (i : ℕ) (d : A) → length l ≤ i → getD l i d ≡ d
+  getD-past [] i d h = refl
+  getD-past (x ∷ l) zero d h = absurd (omega arith)
+  getD-past (x ∷ l) (suc i) d h = getD-past l i d (omega arith)
+
   pub drop-replicate : (a : A) (m n : ℕ) → drop m (replicate n a) ≡ replicate (n - m) a
   drop-replicate a zero n = let e : n - 0 ≡ n = omega arith in rw e
   drop-replicate a (suc m) zero = let e : 0 - suc m ≡ 0 = omega arith in rw e

@@ -8,7 +8,7 @@ ghost use Rattle.theory.specs.Mentions.{mentionsAll};
 ghost use Rattle.mentions.specs.Noted.{Noted};
 use literal::Literal;
 
-// One element more, by its size. A 0, which closes a group, is noted as the constant; a size above the limit is passed over.
+// One element more, by its size. A 0, which closes a group, sets number 0, which nobody asks for; a size above the limit is passed over.
 pub fn note(mentioned: &mut [bool; Literal::VARIABLES], size: u16)
     ensures { λ _. ⌜ ((t : List ℤ) (e : ℤ) → natAbs e ≡ size → Noted (now (mentioned .entry)) t → Noted (now (mentioned .exit)) (t ++ (e ∷ []))) ⌝ }
 {

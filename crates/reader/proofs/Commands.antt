@@ -105,6 +105,11 @@ module _ (s : List ℕ) (i : ℕ) where
   pub command-stands : {t : Turn} {m : Mark} {v next : ℕ} → command.Command m v next ≡ commandAt s i t → Stands t m v next
   command-stands {t = t} e = rw (← e) at (command-says t)
 
+  pub stands-command : {t : Turn} {m : Mark} {v next : ℕ} → Stands t m v next → commandAt s i t ≡ command.Command m v next
+  unfolding commandAt
+  stands-command {m = m} c =
+      rw (c .turn, c .byte, mark-of m, same-refl (turnOf m), le-leb (i + 1 + operandBytes m) (length s) (omega (arith, c .further, c .long)), c .operand, c .further)
+
   next-byte : (j : ℕ) → j < length s → drop j s ≡ getD s j 0 ∷ drop (j + 1) s
   next-byte j h = rw (add-one, ← drop-cons s j 0)
 

@@ -3,16 +3,19 @@ use mathlib.Core.Path.{_≡_}
 use mathlib.Core.Logic.{_≢_}
 use mathlib.Core.List.{List, [], _∷_}
 use Prim.Native.Nat.{ℕ}
+use native.Mathlib.Omega.{arith}
 use borrow.Author.Tests.{ne-eqb}
 use Rattle.literal.specs.Literal.{maxTable}
 use Rattle.receipt.specs.declared.Reading.the-variants.{Refused}
 use Rattle.receipt.specs.declared.Refusal.{Refusal}
-use Rattle.receipt.specs.Receipt.{numberOf, namedClause}
+use Rattle.receipt.specs.declared.Fault.the-variants.{UnmentionedVariable}
+use Rattle.receipt.specs.Receipt.{numberOf, namedClause, refusal}
 use Rattle.theory.specs.Calls.{solveCall}
 use Rattle.theory.specs.Encoding.{UnmentionedInStrip, Bytes}
 use Rattle.theory.specs.Strip.{readStrip}
 use Rattle.theory.specs.Unknown.{UnknownInStrip}
 use Rattle.strip.proofs.Receipts.{strip-names, strip-unmentioned}
+use Rattle.strip.proofs.Unmentioned.{unmentioned-exactly}
 use Rattle.text.specs.Text.{codes, decimal, line, refusedText}
 use Rattle.report.specs.Report.{reportOf}
 
@@ -33,5 +36,9 @@ module _ (s : List ℕ) (f : Refusal) (e : readStrip s maxTable .reading ≡ Ref
 
   -- A3: with 26 the place is that of an end mark before which a placement isn't named
   pub report-unmentioned : Bytes s → numberOf (f .fault) ≡ 26 →
-      UnmentionedInStrip s (f .place) × (reportOf s ≡ line (codes "refused") (decimal 26 ∷ decimal (f .place) ∷ []))
+      UnmentionedInStrip s maxTable (f .place) × (reportOf s ≡ line (codes "refused") (decimal 26 ∷ decimal (f .place) ∷ []))
   report-unmentioned b q = ((rw e at (strip-unmentioned s b maxTable)) q, rw (report-refused, q))
+
+-- and every such strip gets that line
+pub unmentioned-reported : (s : List ℕ) → Bytes s → (i : ℕ) → UnmentionedInStrip s maxTable i → reportOf s ≡ line (codes "refused") (decimal 26 ∷ decimal i ∷ [])
+unmentioned-reported s b i w = report-other s (refusal UnmentionedVariable i) (unmentioned-exactly s b maxTable i .1 w) (λ z. omega arith)

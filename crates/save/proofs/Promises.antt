@@ -1,6 +1,7 @@
 -- What a call of Save promises, by its receipt and the strip buffer after it; and that Save and Read bring each other back.
 -- All of it follows from the equations that `save` and `read` ensure.
 use mathlib.Core.Path.{_≡_, refl, ap, sym, subst, _∙_}
+use mathlib.Core.Bool.{Bool, true, false, cond}
 use mathlib.Core.Logic.{_↔_, _≢_}
 use mathlib.Core.List.{List}
 use Prim.Native.Nat.{ℕ, _≤_, _<_}
@@ -10,9 +11,9 @@ use lib.Dec.{ltb}
 use lib.IntN.{ℤ}
 use lib.ListN.{length, take, drop}
 use lib.Seq.{take-at, drop-at}
-use Rattle.general.specs.Booleans.{true-not-false, false-unless, cond-ind}
+use Rattle.general.specs.Booleans.{false-unless, cond-ind}
 use Rattle.receipt.specs.Receipt.{numberOf, done, receipt, refusal}
-use Rattle.receipt.specs.Answers.{savingReceipt, readingReceipt, readLength}
+use Rattle.receipt.specs.Answers.{savingReceipt, readingReceipt}
 use Rattle.receipt.specs.declared.Checked.{Checked}
 use Rattle.receipt.specs.declared.Checked.the-variants as checked
 use Rattle.receipt.specs.declared.Fault.the-variants.{StripTooLong, StripShort, UnmentionedVariable}
@@ -22,7 +23,7 @@ use Rattle.receipt.specs.declared.Refusal.{Refusal}
 use Rattle.receipt.specs.declared.Saving.{Saving}
 use Rattle.receipt.specs.declared.Saving.the-variants.{Saved, Refused}
 use Rattle.receipt.proofs.Numbers.{not-refused}
-use Rattle.theory.specs.Calls.{over, SaveCall, saveChecked, saveCall, readCall}
+use Rattle.theory.specs.Calls.{over, SaveCall, thenMentioned, saveCheck, saveChecked, saveCall, readCall}
 use Rattle.theory.specs.Encoding.{savedStrip, savedLength, Unchaptered, Bytes}
 use Rattle.theory.specs.Mentions.{mentionsAll, Mentioned}
 use Rattle.theory.specs.Strip.{Decoding, readStrip}
@@ -33,9 +34,10 @@ use Rattle.theory.proofs.Tables.{accepted-sizes, accepted-exactly}
 use Rattle.theory.proofs.Unknown.{none-named, check-names}
 use Rattle.strip.specs.Decoding.{called as readCalled}
 use Rattle.strip.proofs.Accepted.{read-accepted}
-use Rattle.strip.proofs.Ends.{read-mentioned, sized}
-use Rattle.strip.proofs.Promises.{read-too-long}
+use Rattle.strip.proofs.Ends.{read-mentioned}
+use Rattle.strip.proofs.Promises.{read-used, read-too-long}
 use Rattle.save.specs.Save.{called}
+use Rattle.save.proofs.Calling.{save-passed, passed-save}
 use Rattle.save.proofs.RoundTrip.{saved-reads, read-saves}
 
 abbrev pub NotRefused : Saving → Type 0
@@ -59,18 +61,18 @@ By n t s k = Way n t s (k .answer) (k .strip)
 
 way : {n : ℕ} {t : List ℤ} {s : List ℕ} {r : Saving} {s′ : List ℕ} → Call n t s r s′ → Way n t s r s′
 unfolding saveCall
-way {n} {t} {s} c = subst (By n t s) (sym (c .is)) (go (check n t) refl)
+way {n} {t} {s} c = subst (By n t s) (sym (c .is)) (go (saveCheck n t) refl)
   where
-    go : (k : Checked) → check n t ≡ k → By n t s (saveChecked k n t s)
-    go (checked.Refused w) e = refused w (λ h. let z : _≡_ {A = ℕ} 0 1 = cc (accepted-exactly n t .1 (h .0)) in omega arith)
-    go checked.Passed e = cond-ind (By n t s) _ _ (mentionsAll n t)
-        (λ m. cond-ind (By n t s) _ _ (ltb (length s) (length (savedStrip n t)))
-        (λ b. refused _ (λ h. omega (arith, h .2, saved-length n t e, ltb-true (length s) (length (savedStrip n t)) b)))
-        (λ b. saved e m (ltb-false (length s) (length (savedStrip n t)) b)))
-        (λ m. refused _ (λ h. true-not-false (h .1) m))
+    go : (k : Checked) → saveCheck n t ≡ k → By n t s (saveChecked k n t s)
+    go (checked.Refused w) e = refused w (λ h. let z : _≡_ {A = ℕ} 0 1 = cc (passed-save n t (accepted-exactly n t .1 (h .0)) (h .1)) in omega arith)
+    go checked.Passed e =
+        let p = save-passed n t e in
+        cond-ind (By n t s) _ _ (ltb (length s) (length (savedStrip n t)))
+        (λ b. refused _ (λ h. omega (arith, h .2, saved-length n t (p .0), ltb-true (length s) (length (savedStrip n t)) b)))
+        (λ b. saved (p .0) (p .1) (ltb-false (length s) (length (savedStrip n t)) b))
 
 module _ {n : ℕ} {t : List ℤ} {s : List ℕ} {r : Saving} {s′ : List ℕ} (c : Call n t s r s′) where
-  -- demand 1, of Save: a table within the limits, with room lent, is accepted
+  -- demand 1, of Save: a table within the limits that names every placement, with room lent, is accepted
   pub save-accepts : NotRefused r ↔ Savable n t s
   save-accepts = go (way c)
     where
@@ -88,33 +90,34 @@ module _ {n : ℕ} {t : List ℤ} {s : List ℕ} {r : Saving} {s′ : List ℕ} 
 
   -- "Turned away: 1 to 5 as for any table"
   pub save-table-refused : (w : Refusal) → check n t ≡ checked.Refused w → r ≡ Refused w
-  unfolding saveCall
+  unfolding saveCall saveCheck
   save-table-refused w e = ap (λ (k : SaveCall). k .answer) (c .is) ∙ rw e
 
   -- A3: 26 "in saving after 5 and before 25", place 0
   pub save-unmentioned : WithinLimits n t → ¬ Mentioned n t → r ≡ Refused (refusal UnmentionedVariable 0)
-  unfolding saveCall
+  unfolding saveCall saveCheck
   save-unmentioned w h =
       let a : Accepted n t = accepted-exactly n t .1 w in
       ap (λ (k : SaveCall). k .answer) (c .is) ∙ rw (a, false-unless (mentionsAll n t) h)
 
   -- "then 25, strip room short"
   pub save-strip-short : WithinLimits n t → Mentioned n t → length s < savedLength (zeros t) (nonzeros t) → r ≡ Refused (refusal StripShort 0)
-  unfolding saveCall
+  unfolding saveCall saveCheck
   save-strip-short w m h =
       let a : Accepted n t = accepted-exactly n t .1 w in
       ap (λ (k : SaveCall). k .answer) (c .is) ∙ rw (a, m, lt-ltb (length s) (length (savedStrip n t)) (omega (arith, saved-length n t a)))
 
   -- A2: 5 is for the first unknown placement, with its group; "for all other numbers it is 0"
   pub save-names : Names (UnknownInTable n t) (savingReceipt r)
-  unfolding saveCall
-  save-names = rw (ap (λ (k : SaveCall). k .answer) (c .is)) (check-names n t (λ k. savingReceipt (saveChecked k n t s .answer)) (λ w. refl)
-      (cond-ind NamesAt _ _ (mentionsAll n t)
-      (λ _. cond-ind NamesAt _ _ (ltb (length s) (length (savedStrip n t))) (λ _. none-named 25 0 0 (λ e. omega arith)) (λ _. none-named done _ 0 (λ e. omega arith)))
-      (λ _. none-named 26 0 0 (λ e. omega arith))))
+  unfolding saveCall saveCheck
+  save-names = rw (ap (λ (k : SaveCall). k .answer) (c .is)) (check-names n t (λ k. savingReceipt (saveChecked (thenMentioned n t k) n t s .answer)) (λ w. refl) (passed (mentionsAll n t)))
     where
       NamesAt : SaveCall → Type 0
       NamesAt k = Names (UnknownInTable n t) (savingReceipt (k .answer))
+
+      passed : (m : Bool) → NamesAt (saveChecked (cond m checked.Passed (checked.Refused (refusal UnmentionedVariable 0))) n t s)
+      passed true = cond-ind NamesAt _ _ (ltb (length s) (length (savedStrip n t))) (λ _. none-named 25 0 0 (λ e. omega arith)) (λ _. none-named done _ 0 (λ e. omega arith))
+      passed false = none-named 26 0 0 (λ e. omega arith)
 
   -- "On refusal the strip buffer is untouched"
   pub save-refused-unchanged : (w : Refusal) → r ≡ Refused w → s′ ≡ s
@@ -171,14 +174,11 @@ module _ (s : List ℕ) (t₀ : List ℤ) (r₂ : Reading) (t₂ : List ℤ) (re
 
   -- the used part is the table that was read
   used : take u t₂ ≡ decoded .table
-  unfolding readCall
-  used =
-      let long : u ≡ length (decoded .table) = sym (ap readLength answer) ∙ sized s (length t₀) .0 in
-      ap (take u) (ap (λ k. k .table) reads) ∙ take-at (decoded .table) _ u (sym long)
+  used = read-used s t₀ r₂ t₂ reads n u read
 
   pub read-then-save : Bytes s → Unchaptered s → (s₀ : List ℕ) (r : Saving) (s₁ : List ℕ) → Call n (take u t₂) s₀ r s₁ → length s ≤ length s₀ →
       (savingReceipt r ≡ receipt done (length s) 0) × (s₁ ≡ over (length s) s s₀)
-  unfolding saveCall
+  unfolding saveCall saveCheck
   read-then-save b plain s₀ r s₁ c fits =
       let passed : Accepted n (take u t₂) = rw used (read-accepted s (length t₀) n u answer) in
       let mentioned : Mentioned n (take u t₂) = rw used (read-mentioned s (length t₀) n u answer) in

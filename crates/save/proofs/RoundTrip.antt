@@ -12,7 +12,7 @@ use Rattle.theory.specs.Strip.{nothingRead, readStrip}
 use Rattle.theory.specs.Encoding.{group, encode, groups, savedStrip, Unchaptered, Bytes}
 use Rattle.theory.proofs.Encodings.{clauses-table, groups-only, encode-injective, saved-bytes, saved-table, saved-within}
 use Rattle.strip.proofs.Ends.{Ended, answered}
-use Rattle.strip.proofs.Promises.{within-reads}
+use Rattle.strip.proofs.Encoded.{within-reads}
 
 -- "Reading the saved strip brings back n and the same table"
 pub saved-reads : (n : ℕ) (t : List ℤ) → Accepted n t → Mentioned n t → (room : ℕ) → length t ≤ room →

@@ -96,19 +96,20 @@ module _ (s : List ℕ) where
           clause-last (n + var l) f (w .clause ++ (l ∷ [])) (λ d y md my. let k = items-known d y md my in (k .0, omega (arith, k .1)))
           (literal-last (n + var l) (w .clause) l clause-known (o, omega arith)) c x mc mx .0
 
+module _ (s : List ℕ) (room : ℕ) where
   -- what follows of a command from i to next that is obeyed, and of one that is refused with 5 or 26
   abbrev pub Follows : ℕ → ℕ → List ℤ → Obeyed → Type 0
-  Follows i next t (Goes q e) = Behind next (q .turn) q (with t e)
-  Follows i next t (Refused why) = (numberOf why ≡ 5 → UnknownInStrip s (namedClause why .0) i) × (numberOf why ≡ 26 → UnmentionedInStrip s i)
+  Follows i next t (Goes q e) = Behind s next (q .turn) q (with t e)
+  Follows i next t (Refused why) = (numberOf why ≡ 5 → UnknownInStrip s (namedClause why .0) i) × (numberOf why ≡ 26 → UnmentionedInStrip s room i)
 
   module _ (short : length s ≤ maxStrip) (i next : ℕ) (long : next ≤ length s) where
     -- what was read with the command, and what is ahead of it
     past : (m : Mark) (v : ℕ) → drop i s ≡ commandBytes m v ++ drop next s → (r : List ℕ) → take next s ++ r ≡ take i s ++ (commandBytes m v ++ r)
     past m v bytes r = ap (λ (x : List ℕ). x ++ r) (take-past i next s (commandBytes m v) long bytes) ∙ append-assoc (take i s) (commandBytes m v) r
 
-    module _ (p : Progress) (t : List ℤ) (d : Sound p (length t)) where
+    module _ (p : Progress) (t : List ℤ) (d : Sound p (length t)) (fits : length t ≤ room) where
       -- the end mark at i, and a placement that is not named before it
-      unmentioned : Behind i Outside p t → drop i s ≡ commandBytes Ends 0 ++ drop next s → mentionsAll (p .variables) t ≡ false → UnmentionedInStrip s i
+      unmentioned : Behind s i Outside p t → drop i s ≡ commandBytes Ends 0 ++ drop next s → mentionsAll (p .variables) t ≡ false → UnmentionedInStrip s room i
       unfolding itemBytes tableOf
       unmentioned w bytes b =
           let f = groups (w .items) in
@@ -116,6 +117,7 @@ module _ (s : List ℕ) where
           let after : next ≡ i + 1 = omega (arith, length-drop i s, length-drop next s, ap length bytes) in
           let is : take next s ≡ encode (p .variables) (w .items) = sym (append-nil (take next s)) ∙ past Ends 0 bytes [] ∙ w .strip (p .variables) [] [] (λ _. refl) ∙ rw (append-nil (w .items)) in
           record {
+            short = short;
             variables = p .variables;
             items = w .items;
             limits = record {
@@ -126,16 +128,17 @@ module _ (s : List ℕ) where
               literals = omega (arith, w .literals, d .literals);
               known = range-within (p .variables) f (w .known (p .variables) (λ _. refl));
             };
+            fits = rw table at fits;
             mark = rw add-zero at (sym (getD-drop i s 0 0) ∙ ap (λ (x : List ℕ). getD x 0 0) bytes);
             unmentioned = λ h. true-not-false h (rw table at b);
           }
 
       entered-follows : (l : Literal) (m : Mark) (v : ℕ) → drop i s ≡ commandBytes m v ++ drop next s →
           ((c : Clause) (r : List ℕ) → commandBytes m v ++ (entryBytes c ++ r) ≡ entryBytes (l ∷ c) ++ r) →
-          Behind i Inside p t → Follows i next t (entered p l)
+          Behind s i Inside p t → Follows i next t (entered p l)
       unfolding entryBytes
       entered-follows l m v bytes is w = cond-ind (Follows i next t) _ _ (eqb (var l) 0 || ltb (p .variables) (var l))
-          (λ b. (λ _. open-clause i p t w l (drop next s) (bytes ∙ is [] (drop next s)) b, λ z. absurd (omega arith)))
+          (λ b. (λ _. open-clause s i p t w l (drop next s) (bytes ∙ is [] (drop next s)) b, λ z. absurd (omega arith)))
           (λ k. cond-ind (Follows i next t) _ _ (ltb (p .literals) maxLiterals)
           (λ _. record {
             items = w .items;
@@ -150,8 +153,8 @@ module _ (s : List ℕ) where
           (λ _. (λ z. absurd (omega arith), λ z. absurd (omega arith))))
 
       -- the group is closed
-      closed-behind : (v : ℕ) → drop i s ≡ commandBytes Closes v ++ drop next s → Behind i Inside p t →
-          Behind next Outside (progress Outside (p .variables) (p .clauses) (p .literals)) (t ++ (pos 0 ∷ []))
+      closed-behind : (v : ℕ) → drop i s ≡ commandBytes Closes v ++ drop next s → Behind s i Inside p t →
+          Behind s next Outside (progress Outside (p .variables) (p .clauses) (p .literals)) (t ++ (pos 0 ∷ []))
       unfolding entryBytes itemBytes groups tableOf entries
       closed-behind v bytes w =
           let f = groups (w .items) in
@@ -168,7 +171,7 @@ module _ (s : List ℕ) where
             known-open = empty-in-range (p .variables);
           }
 
-      pub obey-follows : (m : Mark) (v : ℕ) → p .turn ≡ turnOf m → drop i s ≡ commandBytes m v ++ drop next s → Behind i (turnOf m) p t →
+      pub obey-follows : (m : Mark) (v : ℕ) → p .turn ≡ turnOf m → drop i s ≡ commandBytes m v ++ drop next s → Behind s i (turnOf m) p t →
           Follows i next t (obey p (mentionsAll (p .variables) t) v m)
       unfolding obey entryBytes itemBytes groups
       obey-follows Placements v e bytes w = cond-ind (Follows i next t) _ _ (ltb maxVariables v) (λ _. (λ z. absurd (omega arith), λ z. absurd (omega arith))) (λ _. record {
@@ -181,16 +184,18 @@ module _ (s : List ℕ) where
         known = λ n h. w .known n (λ z. absurd (true-not-false refl z));
         known-open = empty-in-range v;
       })
-      obey-follows Chapter v e bytes w = subst (λ (u : Turn). Behind next u p t) (sym e) (record {
-        items = w .items ++ (chapter v ∷ []);
-        clause = [];
-        strip = λ n c l h. past Chapter v bytes _ ∙ w .strip n [] (chapter v ∷ l) h ∙ rw (append-assoc (w .items) (chapter v ∷ []) l);
-        table = rw (groups-append (w .items) (chapter v ∷ []), append-nil (groups (w .items))) (w .table);
-        number = rw (groups-append (w .items) (chapter v ∷ []), append-nil (groups (w .items))) (w .number);
-        literals = rw (groups-append (w .items) (chapter v ∷ []), append-nil (groups (w .items))) (w .literals);
-        known = rw (groups-append (w .items) (chapter v ∷ []), append-nil (groups (w .items))) (w .known);
-        known-open = empty-in-range (p .variables);
-      })
+      obey-follows Chapter v e bytes w =
+          let same = groups-append (w .items) (chapter v ∷ []) ∙ append-nil (groups (w .items)) in
+          subst (λ (u : Turn). Behind s next u p t) (sym e) (record {
+            items = w .items ++ (chapter v ∷ []);
+            clause = [];
+            strip = λ n c l h. past Chapter v bytes _ ∙ w .strip n [] (chapter v ∷ l) h ∙ rw (append-assoc (w .items) (chapter v ∷ []) l);
+            table = rw same (w .table);
+            number = rw same (w .number);
+            literals = rw same (w .literals);
+            known = rw same (w .known);
+            known-open = empty-in-range (p .variables);
+          })
       obey-follows Opens v e bytes w = cond-ind (Follows i next t) _ _ (ltb (p .clauses) maxClauses) (λ _. record {
         items = w .items;
         clause = [];

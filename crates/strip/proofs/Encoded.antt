@@ -26,8 +26,8 @@ use Rattle.theory.specs.declared.Stored.the-variants.{Nothing, Element}
 use Rattle.theory.specs.declared.Obeyed.the-variants.{Goes}
 use Rattle.theory.specs.Formula.{Clause, Formula}
 use Rattle.theory.specs.Mentions.{mentionsAll, Mentioned}
-use Rattle.theory.specs.Strip.{turnOf, same, operandBytes, operandAt, commandAt, progress, entered, obey, Decoding, notRead, storing, readFrom}
-use Rattle.theory.specs.Encoding.{Item, chapter, group, commandBytes, entryBytes, itemBytes, groups, tableOf, entries, Bytes}
+use Rattle.theory.specs.Strip.{turnOf, same, operandBytes, operandAt, commandAt, progress, entered, nothingRead, obey, Decoding, notRead, storing, readFrom, maxStrip, readBy, readStrip}
+use Rattle.theory.specs.Encoding.{Item, chapter, group, commandBytes, entryBytes, itemBytes, groups, tableOf, entries, StripLimits, StripWithin, Bytes}
 use Rattle.theory.proofs.Tables.{InRange}
 use Rattle.reader.proofs.Commands.{bytes-long, bytes-rest, bytes-command, word-at}
 use Rattle.strip.proofs.Sound.{with, Allows, Left}
@@ -47,22 +47,22 @@ module _ (s : List ℕ) (room : ℕ) (b : Bytes s) (n : ℕ) (T : List ℤ) (fit
   answer = judged s n T
 
   -- after the end mark every placement was named
-  abbrev Past : Turn → Type 0
-  Past u = same u After ≡ true → Mentioned n T
+  abbrev AfterEnd : Turn → Type 0
+  AfterEnd u = same u After ≡ true → Mentioned n T
 
-  not-past : (u : Turn) → same u After ≡ false → Past u
-  not-past u e z = absurd (true-not-false z e)
+  before-end : (u : Turn) → same u After ≡ false → AfterEnd u
+  before-end u e z = absurd (true-not-false z e)
 
-  stored-fits : (go : List ℤ → Decoding) (i : ℕ) (t : List ℤ) (x : Stored) → length (with t x) ≤ room → storing s room go i t x ≡ go (with t x)
+  stored-fits : (go : List ℤ → Decoding) (i : ℕ) (t : List ℤ) (x : Stored) → length (with t x) ≤ room → storing room go i t x ≡ go (with t x)
   stored-fits go i t Nothing h = refl
   stored-fits go i t (Element x) h = rw (lt-ltb (length t) room (omega (arith, length-append t (x ∷ []))))
 
   module _ (k i : ℕ) (p : Progress) (t : List ℤ) (here : i ≤ length s) (enough : length s < i + suc k)
-      (ih : (j : ℕ) (q : Progress) (t′ : List ℤ) → j ≤ length s → length s < j + k → Left s j (q .turn) q t′ n T → Past (q .turn) → readFrom mentionsAll s room k j q t′ ≡ answer) where
+      (ih : (j : ℕ) (q : Progress) (t′ : List ℤ) → j ≤ length s → length s < j + k → Left s j (q .turn) q t′ n T → AfterEnd (q .turn) → readFrom mentionsAll s room k j q t′ ≡ answer) where
     -- a command, and the strip after it
     on : (m : Mark) (v : ℕ) (rest : List ℕ) → drop i s ≡ commandBytes m v ++ rest → p .turn ≡ turnOf m → (q : Progress) (x : Stored) →
         obey p (mentionsAll (p .variables) t) (operandAt s i (operandBytes m)) m ≡ Goes q x → Left s (i + 1 + operandBytes m) (q .turn) q (with t x) n T →
-        Past (q .turn) → readFrom mentionsAll s room (suc k) i p t ≡ answer
+        AfterEnd (q .turn) → readFrom mentionsAll s room (suc k) i p t ≡ answer
     unfolding readFrom
     on m v rest e u q x o a w =
         let l : i + 1 + operandBytes m ≤ length s = bytes-long s i m v rest e in
@@ -94,7 +94,7 @@ module _ (s : List ℕ) (room : ℕ) (b : Bytes s) (n : ℕ) (T : List ℤ) (fit
     outside u v (chapter x ∷ l) e q a = on Chapter x (itemBytes l) e u p Nothing refl
         (subst (λ (w : Turn). Left s (i + 1 + 1) w p t n T) (sym u)
         (record { clause = []; items = l; strip = λ y. bytes-rest s i Chapter x (itemBytes l) e; table = q; variables = λ z. v; allows = a }))
-        (not-past (p .turn) (rw u))
+        (before-end (p .turn) (rw u))
     outside u v (group c ∷ l) e q a = on Opens 0 _ e u (progress Inside (p .variables) (p .clauses + 1) (p .literals)) Nothing
         (rw (lt-ltb (p .clauses) maxClauses (omega (arith, a .clauses))))
         (record {
@@ -105,7 +105,7 @@ module _ (s : List ℕ) (room : ℕ) (b : Bytes s) (n : ℕ) (T : List ℤ) (fit
           variables = λ z. v;
           allows = record { variables = a .variables; clauses = omega (arith, a .clauses); literals = a .literals; known = a .known };
         })
-        (not-past Inside refl)
+        (before-end Inside refl)
 
     -- an entry of the open group, and the rest of it
     module _ (v : n ≡ p .variables) (x : Literal) (c : Clause) (l : List Item) (a : Allows 1 n (p .clauses) (p .literals) ((x ∷ c) ∷ groups l)) where
@@ -146,26 +146,49 @@ module _ (s : List ℕ) (room : ℕ) (b : Bytes s) (n : ℕ) (T : List ℤ) (fit
           variables = λ z. v;
           allows = record { variables = a .variables; clauses = omega (arith, a .clauses); literals = omega (arith, a .literals); known = λ d k m. a .known d k (List·Memᴰ·tail m) };
         })
-        (not-past Outside refl)
+        (before-end Outside refl)
     inside u v (Pos w ∷ c) l e q a = on Taken w _ e u (further v (Pos w) c l a) (Element (entryOf (Pos w)))
-        (rw (word-at s i _ w _ e) (goes-on v (Pos w) c l a)) (rest-left v (Pos w) c l a _ (bytes-rest s i Taken w _ e) q) (not-past Inside refl)
+        (rw (word-at s i _ w _ e) (goes-on v (Pos w) c l a)) (rest-left v (Pos w) c l a _ (bytes-rest s i Taken w _ e) q) (before-end Inside refl)
     inside u v (Neg w ∷ c) l e q a = on LeftOut w _ e u (further v (Neg w) c l a) (Element (entryOf (Neg w)))
-        (rw (word-at s i _ w _ e) (goes-on v (Neg w) c l a)) (rest-left v (Neg w) c l a _ (bytes-rest s i LeftOut w _ e) q) (not-past Inside refl)
+        (rw (word-at s i _ w _ e) (goes-on v (Neg w) c l a)) (rest-left v (Neg w) c l a _ (bytes-rest s i LeftOut w _ e) q) (before-end Inside refl)
 
-    by-turn : (u : Turn) → p .turn ≡ u → Left s i u p t n T → Past u → readFrom mentionsAll s room (suc k) i p t ≡ answer
+    by-turn : (u : Turn) → p .turn ≡ u → Left s i u p t n T → AfterEnd u → readFrom mentionsAll s room (suc k) i p t ≡ answer
     unfolding readFrom obey tableOf
     by-turn Start u a w =
         let e = a .strip b in
         on Placements n _ e u (progress Outside n (p .clauses) (p .literals)) Nothing
         (rw (word-at s i _ n _ e, le-ltb maxVariables n (a .allows .variables)))
-        (record { clause = []; items = a .items; strip = λ y. bytes-rest s i Placements n _ e; table = a .table; variables = λ z. refl; allows = a .allows }) (not-past Outside refl)
+        (record { clause = []; items = a .items; strip = λ y. bytes-rest s i Placements n _ e; table = a .table; variables = λ z. refl; allows = a .allows }) (before-end Outside refl)
     by-turn Outside u a w = outside u (a .variables refl) (a .items) (a .strip b) (a .table) (a .allows)
     by-turn Inside u a w = inside u (a .variables refl) (a .clause) (a .items) (a .strip b) (a .table) (a .allows)
     by-turn After u a w =
         let q : T ≡ t = a .table ∙ append-nil t in
         rw (le-ltb i (length s) (omega (arith, length-drop i s, ap length (a .strip b))), u, w refl, q, a .variables refl)
 
-  pub left-reads : (k i : ℕ) (p : Progress) (t : List ℤ) → i ≤ length s → length s < i + k → Left s i (p .turn) p t n T → Past (p .turn) →
+  pub left-reads : (k i : ℕ) (p : Progress) (t : List ℤ) → i ≤ length s → length s < i + k → Left s i (p .turn) p t n T → AfterEnd (p .turn) →
       readFrom mentionsAll s room k i p t ≡ answer
   left-reads zero i p t h g a w = absurd (omega arith)
   left-reads (suc k) i p t h g a w = by-turn k i p t h g (left-reads k) (p .turn) refl a w
+
+-- a strip within document 01's limits, with room for the table it stands for
+module _ (s : List ℕ) (b : Bytes s) (room n : ℕ) (l : List Item) where
+  pub limits-read : StripLimits s n l → length (tableOf (groups l)) ≤ room → readStrip s room ≡ judged s n (tableOf (groups l))
+  unfolding readBy
+  limits-read w fits = rw (le-ltb maxStrip (length s) (w .short))
+      (left-reads s room b n (tableOf (groups l)) fits (suc (length s)) 0 nothingRead [] (omega arith) (omega arith) (record {
+        clause = [];
+        items = l;
+        strip = λ y. w .is;
+        table = refl;
+        variables = λ q. absurd (true-not-false refl q);
+        allows = record {
+          variables = w .variables;
+          clauses = omega (arith, w .clauses);
+          literals = omega (arith, w .literals);
+          known = λ c x mc mx. (w .known .low c x mc mx, w .known .high c x mc mx);
+        };
+      }) (λ q. absurd (true-not-false q refl)))
+
+  -- and one that is within the limits
+  pub within-reads : StripWithin s n l → length (tableOf (groups l)) ≤ room → readStrip s room ≡ record { reading = Read n (length (tableOf (groups l))); table = tableOf (groups l) }
+  within-reads w fits = limits-read (w .limits) fits ∙ rw (w .mentioned)

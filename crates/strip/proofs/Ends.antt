@@ -33,12 +33,12 @@ use Rattle.theory.specs.Mentions.{mentionsAll, Mentioned}
 use Rattle.theory.specs.Strip.{turnOf, same, nothingRead, obey, Decoding, storing, onward, follow, finish, readFrom, commandAt, maxStrip, readBy, readStrip}
 use Rattle.theory.specs.Encoding.{tableOf, entries}
 use Rattle.reader.proofs.Commands.{same-turn, Says, command-says, command-bytes}
-use Rattle.strip.proofs.Sound.{Sound, begun-sound, elements, with, Ending, Left, Keeps, obey-keeps}
+use Rattle.strip.proofs.Sound.{Sound, begun-sound, elements, with, MayEnd, Left, Keeps, obey-keeps}
 
 module _ (s : List ℕ) (room : ℕ) where
   -- from index i on, with t read before
   abbrev pub Ended : ℕ → Progress → List ℤ → Reading → List ℤ → Type 0
-  Ended i p t (Read n u) T = (u ≡ length T) × (u ≤ room) × (length s ≤ maxStrip) × Left s i (p .turn) p t n T × Ending (p .turn) n T
+  Ended i p t (Read n u) T = (u ≡ length T) × (u ≤ room) × (length s ≤ maxStrip) × Left s i (p .turn) p t n T × MayEnd (p .turn) n T
   Ended i p t (Refused f) T =
       (T ≡ []) × (f .place ≤ maxStrip) × (maxTable ≤ room → numberOf (f .fault) ≢ numberOf TableShort) × (length s ≤ maxStrip → numberOf (f .fault) ≢ numberOf StripTooLong)
 
@@ -49,7 +49,7 @@ module _ (s : List ℕ) (room : ℕ) where
     placed : i ≤ maxStrip
     placed = omega arith
 
-    finish-ends : length s ≤ i → Ends i p t (finish s room p t)
+    finish-ends : length s ≤ i → Ends i p t (finish s p t)
     unfolding tableOf entries
     finish-ends l = go (same (p .turn) After) refl
       where
@@ -73,10 +73,10 @@ module _ (s : List ℕ) (room : ℕ) where
     -- after a command, which the strip from next on goes on from
     module _ (k next : ℕ) (ih : (q : Progress) (t′ : List ℤ) → Sound q (length t′) → length t′ ≤ room → Ends next q t′ (readFrom mentionsAll s room k next q t′)) where
       -- what is left before the command, from what is left after it
-      abbrev Back : Progress → List ℤ → Type 0
-      Back q t′ = (n : ℕ) (T : List ℤ) → Left s next (q .turn) q t′ n T → Left s i (p .turn) p t n T × (Ending (q .turn) n T → Ending (p .turn) n T)
+      abbrev Back : Turn → Progress → List ℤ → Type 0
+      Back u q t′ = (n : ℕ) (T : List ℤ) → Left s next (q .turn) q t′ n T → Left s i u p t n T × (MayEnd (q .turn) n T → MayEnd u n T)
 
-      carried : (q : Progress) (t′ : List ℤ) → Back q t′ →
+      carried : (q : Progress) (t′ : List ℤ) → Back (p .turn) q t′ →
           (x : Decoding) → Ends next q t′ x → Ends i p t x
       carried q t′ back x = go (x .reading)
         where
@@ -85,15 +85,15 @@ module _ (s : List ℕ) (room : ℕ) where
           go (Refused f) e = e
 
       stored : (q : Progress) (e : Stored) → Sound q (length t + elements e) →
-          Back q (with t e) → Ends i p t (storing s room (readFrom mentionsAll s room k next q) i t e)
+          Back (p .turn) q (with t e) → Ends i p t (storing room (readFrom mentionsAll s room k next q) i t e)
       stored q Nothing g back = carried q t back (readFrom mentionsAll s room k next q t) (ih q t (rw add-zero at g) fits)
       stored q (Element x) g back = cond-ind (Ends i p t) _ _ (ltb (length t) room)
           (λ b. carried q (t ++ (x ∷ [])) back (readFrom mentionsAll s room k next q (t ++ (x ∷ [])))
           (ih q (t ++ (x ∷ [])) (rw (length-append t (x ∷ [])) g) (omega (arith, length-append t (x ∷ []), ltb-true (length t) room b))))
           (λ b. (refl, placed, λ w z. omega (arith, ltb-false (length t) room b, g .elements, g .clauses, g .literals), λ w z. omega arith))
 
-      went : (u : Turn) → p .turn ≡ u → (o : Obeyed) → Keeps s i next p t u o → Ends i p t (onward s room (readFrom mentionsAll s room k next) i t o)
-      went u e (obeyed.Goes q x) g = stored q x (g .0) (subst (λ (u : Turn). (n : ℕ) (T : List ℤ) → Left s next (q .turn) q (with t x) n T → Left s i u p t n T × (Ending (q .turn) n T → Ending u n T)) (sym e) (g .1))
+      went : (u : Turn) → p .turn ≡ u → (o : Obeyed) → Keeps s i next p t u o → Ends i p t (onward room (readFrom mentionsAll s room k next) i t o)
+      went u e (obeyed.Goes q x) g = stored q x (g .0) (subst (λ (u : Turn). Back u q (with t x)) (sym e) (g .1))
       went u e (obeyed.Refused why) g = (refl, placed, λ w. g .0, λ w. g .1)
 
   read-ends : length s ≤ maxStrip → (k i : ℕ) (p : Progress) (t : List ℤ) → Sound p (length t) → i ≤ length s → length t ≤ room → Ends i p t (readFrom mentionsAll s room k i p t)

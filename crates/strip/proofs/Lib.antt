@@ -6,5 +6,7 @@ pub mod Encoded
 pub mod Reached
 pub mod Decodings
 pub mod Accepted
+pub mod Related
 pub mod Before
+pub mod Unmentioned
 pub mod Promises

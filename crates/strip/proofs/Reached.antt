@@ -91,23 +91,23 @@ module _ {s : List ℕ} {room at used : ℕ} {p : Progress} {cells : List ℤ} {
   further = omega (arith, stands .further)
 
   -- what the command does
-  abbrev pub done : Obeyed
-  done = obey p (mentionsAll (p .variables) (take used cells)) v m
+  abbrev pub effect : Obeyed
+  effect = obey p (mentionsAll (p .variables) (take used cells)) v m
 
-  obeying : onward s room (readFrom mentionsAll s room (a .fuel) next) at (take used cells) done ≡ readStrip s room
+  obeying : onward room (readFrom mentionsAll s room (a .fuel) next) at (take used cells) effect ≡ readStrip s room
   obeying = rw (← c .command) at (followed a (c .inside))
 
-  pub not-obeyed : (why : Fault) → obeyed.Refused why ≡ done → notRead (refusal why at) ≡ readStrip s room
+  pub not-obeyed : (why : Fault) → obeyed.Refused why ≡ effect → notRead (refusal why at) ≡ readStrip s room
   not-obeyed why e = rw (← e) at obeying
 
-  module _ {q : Progress} {e : Stored} (g : obeyed.Goes q e ≡ done) where
+  module _ {q : Progress} {e : Stored} (g : obeyed.Goes q e ≡ effect) where
     sound : Sound q (used + elements e)
     sound =
         let d : Sound p (length (take used cells)) = rw (used-length a) (a .sound) in
         let k = rw (← g) at (obey-keeps s at next p (take used cells) d m v (stands .turn) (command-bytes s at stands)) in
         rw (used-length a) at (k .0)
 
-    storing-rest : storing s room (readFrom mentionsAll s room (a .fuel) next q) at (take used cells) e ≡ readStrip s room
+    storing-rest : storing room (readFrom mentionsAll s room (a .fuel) next q) at (take used cells) e ≡ readStrip s room
     storing-rest = rw (← g) at obeying
 
     -- with the cells as they are then
@@ -120,10 +120,10 @@ module _ {s : List ℕ} {room at used : ℕ} {p : Progress} {cells : List ℤ} {
         go zero n r = absurd (omega (arith, c .inside))
         go (suc k) n r = record { short = a .short; sound = sound; long = long; noted = noted; fuel = k; enough = omega (arith, further); rest = r }
 
-  pub kept : {q : Progress} → obeyed.Goes q Nothing ≡ done → Reached s room next used q cells mentioned
+  pub kept : {q : Progress} → obeyed.Goes q Nothing ≡ effect → Reached s room next used q cells mentioned
   kept g = rw add-zero at (reached g cells (a .long) mentioned (rw add-zero (a .noted)) (rw add-zero (storing-rest g)))
 
-  module _ {q : Progress} {x : ℤ} (g : obeyed.Goes q (Element x) ≡ done) where
+  module _ {q : Progress} {x : ℤ} (g : obeyed.Goes q (Element x) ≡ effect) where
     pub no-room : room ≤ used → notRead (refusal TableShort at) ≡ readStrip s room
     no-room h = rw (le-ltb (length (take used cells)) room (omega (arith, used-length a))) at (storing-rest g)
 

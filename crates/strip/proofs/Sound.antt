@@ -76,8 +76,8 @@ pub record Allows (u : ℕ) (n c l : ℕ) (f : Formula) : Type 0 where
   pub known : InRange n f
 
 -- where the end mark is still ahead, it may stand after the table T of n variables
-abbrev pub Ending : Turn → ℕ → List ℤ → Type 0
-Ending u n T = same u After ≡ false → Mentioned n T
+abbrev pub MayEnd : Turn → ℕ → List ℤ → Type 0
+MayEnd u n T = same u After ≡ false → Mentioned n T
 
 module _ (s : List ℕ) where
   -- from index i on, with t read before, to the table T of n variables
@@ -92,7 +92,7 @@ module _ (s : List ℕ) where
   -- what obeying a mark at index i says of the strip from next on
   abbrev pub Keeps : ℕ → ℕ → Progress → List ℤ → Turn → Obeyed → Type 0
   Keeps i next p t u (Goes q e) =
-      Sound q (length t + elements e) × ((n : ℕ) (T : List ℤ) → Left next (q .turn) q (with t e) n T → Left i u p t n T × (Ending (q .turn) n T → Ending u n T))
+      Sound q (length t + elements e) × ((n : ℕ) (T : List ℤ) → Left next (q .turn) q (with t e) n T → Left i u p t n T × (MayEnd (q .turn) n T → MayEnd u n T))
   Keeps i next p t u (Refused why) = OfCommand why
 
 closed-range : (n : ℕ) (f : Formula) → InRange n f → InRange n ([] ∷ f)
@@ -158,7 +158,7 @@ module _ (s : List ℕ) (i next : ℕ) (p : Progress) (t : List ℤ) (d : Sound 
         variables = o .variables;
         allows = o .allows;
       },
-      subst (λ (u : Turn). Ending u n T → Ending Outside n T) (sym e) (λ w. w),
+      subst (λ (u : Turn). MayEnd u n T → MayEnd Outside n T) (sym e) (λ w. w),
     ),
   )
   obey-keeps Opens v e c = cond-ind (Keeps s i next p t Outside) _ _ (ltb (p .clauses) maxClauses)

@@ -179,6 +179,14 @@ readCall s t = readAs (readStrip s (length t)) t
 
 -- Save ------------------------------------------------------------------------------------------------------------
 
+-- what is asked of a table: "1 to 5 as for any table", then that it names every placement (A3)
+abbrev pub thenMentioned : ℕ → List ℤ → Checked → Checked
+thenMentioned n t (Refused r) = Refused r
+thenMentioned n t Passed = cond (mentionsAll n t) Passed (refused UnmentionedVariable 0)
+
+unfoldable pub saveCheck : ℕ → List ℤ → Checked
+saveCheck n t = thenMentioned n t (check n t)
+
 pub record SaveCall : Type 0 where
   pub answer : Saving
   pub strip : List ℕ
@@ -195,11 +203,11 @@ savedCall b s =
 
 abbrev pub saveChecked : Checked → ℕ → List ℤ → List ℕ → SaveCall
 saveChecked (Refused r) n t s = saveRefused r s
-saveChecked Passed n t s = cond (mentionsAll n t) (savedCall (savedStrip n t) s) (saveRefused (refusal UnmentionedVariable 0) s)
+saveChecked Passed n t s = savedCall (savedStrip n t) s
 
--- "Turned away: 1 to 5 as for any table, then 25, strip room short."; 26 "after 5 and before 25" (A3)
+-- "Turned away: 1 to 5 as for any table, then 25, strip room short."; 26 "in saving after 5 and before 25" (A3)
 unfoldable pub saveCall : ℕ → List ℤ → List ℕ → SaveCall
-saveCall n t s = saveChecked (check n t) n t s
+saveCall n t s = saveChecked (saveCheck n t) n t s
 
 -- Solving a strip: reading it, and searching what was read ---------------------------------------------------------
 

@@ -96,12 +96,15 @@ pub record StripWithin (s : List ℕ) (n : ℕ) (l : List Item) : Type 0 where
   pub limits : StripLimits s n l
   pub mentioned : Mentioned n (tableOf (groups l))
 
--- A3, 26 "with the end mark's place": up to and with the end mark at i the strip is within document 01's limits, and a placement is not named
-pub record UnmentionedInStrip (s : List ℕ) (i : ℕ) : Type 0 where
+-- A3, 26 "with the end mark's place", i: with the end mark at i and without what stands after it the strip is within document 01's limits, its table has room,
+-- and a placement is not named
+pub record UnmentionedInStrip (s : List ℕ) (room i : ℕ) : Type 0 where
+  pub short : length s ≤ maxStrip
+  pub mark : getD s i 0 ≡ byteOf Ends
   pub variables : ℕ
   pub items : List Item
   pub limits : StripLimits (take (i + 1) s) variables items
-  pub mark : getD s i 0 ≡ byteOf Ends
+  pub fits : length (tableOf (groups items)) ≤ room
   pub unmentioned : ¬ Mentioned variables (tableOf (groups items))
 
 -- a strip is of bytes

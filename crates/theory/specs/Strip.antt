@@ -148,7 +148,10 @@ notRead f = record { reading = reading.Refused f; table = [] }
 abbrev pub ending : ℕ → Progress → ℕ → Reading
 ending n p u = cond (same (p .turn) After) (reading.Read (p .variables) u) (reading.Refused (refusal CutStrip n))
 
-module _ (s : List ℕ) (room : ℕ) where
+abbrev pub finish : List ℕ → Progress → List ℤ → Decoding
+finish s p t = record { reading = ending (length s) p (length t); table = cond (same (p .turn) After) t [] }
+
+module _ (room : ℕ) where
   -- last of all 23, "no room for the next element"; i is the command's place
   abbrev pub storing : (List ℤ → Decoding) → ℕ → List ℤ → Stored → Decoding
   storing go i t Nothing = go t
@@ -158,22 +161,19 @@ module _ (s : List ℕ) (room : ℕ) where
   onward go i t (Goes p e) = storing (go p) i t e
   onward go i t (Refused why) = notRead (refusal why i)
 
-  abbrev pub finish : Progress → List ℤ → Decoding
-  finish p t = record { reading = ending (length s) p (length t); table = cond (same (p .turn) After) t [] }
-
 -- whether the end mark may stand after the table of so many placements that was read
 abbrev pub EndRule : Type 0
 EndRule = ℕ → List ℤ → Bool
 
 module _ (rule : EndRule) (s : List ℕ) (room : ℕ) where
   abbrev pub follow : (ℕ → Progress → List ℤ → Decoding) → ℕ → Progress → List ℤ → Command → Decoding
-  follow go i p t (command.Command m v next) = onward s room (go next) i t (obey p (rule (p .variables) t) v m)
+  follow go i p t (command.Command m v next) = onward room (go next) i t (obey p (rule (p .variables) t) v m)
   follow go i p t (command.Refused f) = notRead f
 
   -- command by command, with fuel for k - 1 commands
   unfoldable pub readFrom : ℕ → ℕ → Progress → List ℤ → Decoding
   readFrom zero i p t = notRead (refusal CutStrip i)
-  readFrom (suc k) i p t = cond (ltb i (length s)) (follow (readFrom k) i p t (commandAt s i (p .turn))) (finish s room p t)
+  readFrom (suc k) i p t = cond (ltb i (length s)) (follow (readFrom k) i p t (commandAt s i (p .turn))) (finish s p t)
 
 -- "Strips: 24 first, place 0"
 abbrev pub maxStrip : ℕ
@@ -188,5 +188,8 @@ abbrev pub readStrip : List ℕ → ℕ → Decoding
 readStrip s room = readBy mentionsAll s room
 
 -- document 01's reading, as it was before A3: the end mark may stand after every table
+abbrev pub free : EndRule
+free n t = true
+
 abbrev pub readFreely : List ℕ → ℕ → Decoding
-readFreely s room = readBy (λ n t. true) s room
+readFreely s room = readBy free s room

@@ -5,6 +5,7 @@ use Prim.Native.Nat.{ℕ}
 use Prim.Native.String.{String}
 use Rattle.general.specs.Search.{firstPlace, any}
 use Rattle.theory.specs.Formula.{clauses}
+use Rattle.theory.specs.Calls.{saveCheck}
 use Rattle.theory.specs.Mentions.{mentionsAll}
 use Rattle.theory.specs.Table.{check, zeros, nonzeros, endsOpen}
 use Rattle.theory.specs.Encoding.{entryBytes, itemBytes, savedStrip}
@@ -31,5 +32,5 @@ rows =
     ∷ []
 
 pub examples-hold : map (λ (r : Row). outputOf (r .text)) rows ≡ map (λ (r : Row). r .output) rows
-unfolding outputOf wordAt leading valueFrom tableFrom check zeros nonzeros endsOpen firstPlace any mentionsAll clauses savedStrip itemBytes entryBytes decimal digitsWithin spaced
+unfolding outputOf wordAt leading valueFrom tableFrom saveCheck check zeros nonzeros endsOpen firstPlace any mentionsAll clauses savedStrip itemBytes entryBytes decimal digitsWithin spaced
 examples-hold = refl

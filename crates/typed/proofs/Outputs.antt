@@ -1,6 +1,5 @@
 -- What a text gets, case by case, and how it stands at the front of the bytes lent.
 use mathlib.Core.Path.{_≡_, refl}
-use mathlib.Core.Bool.{Bool, true, false, cond}
 use mathlib.Core.List.{List}
 use Prim.Native.Nat.{ℕ, _<_, _≤_}
 use native.Mathlib.Omega.{arith}
@@ -12,18 +11,15 @@ use Rattle.receipt.specs.declared.Checked.{Checked}
 use Rattle.receipt.specs.declared.Checked.the-variants as checked
 use Rattle.receipt.specs.declared.Saving.{Saving}
 use Rattle.receipt.specs.declared.Saving.the-variants.{Saved, Refused}
-use Rattle.receipt.specs.declared.Fault.the-variants.{UnmentionedVariable}
-use Rattle.receipt.specs.Receipt.{refusal}
-use Rattle.theory.specs.Mentions.{mentionsAll}
-use Rattle.theory.specs.Table.{check, Accepted}
 use Rattle.theory.specs.Encoding.{savedStrip, maxSaved}
-use Rattle.theory.specs.Calls.{saveRefused, savedCall, saveChecked, saveCall}
+use Rattle.theory.specs.Calls.{saveCheck, saveChecked, saveCall}
 use Rattle.theory.proofs.Encodings.{saved-most}
 use Rattle.save.specs.Save.{called as saveCalled}
+use Rattle.save.proofs.Calling.{save-passed}
 use Rattle.scan.specs.Scan.{filingOf}
 use Rattle.text.specs.Text.{refusedText}
 use Rattle.typed.specs.declared.Typed.the-variants.{Strip, Message}
-use Rattle.typed.specs.Typed.{maxText, Output, strip, message, tooLongText, tableOutput, filingOutput, outputOf, called, outputCall}
+use Rattle.typed.specs.Typed.{maxText, Output, message, tooLongText, tableOutput, filingOutput, outputOf, called, outputCall}
 
 module _ (s : List ℕ) where
   pub too-long : maxText < length s → message tooLongText ≡ outputOf s
@@ -47,21 +43,16 @@ Writes l o (Refused f) l′ = (message (refusedText f) ≡ o) × (l′ ≡ l)
 
 -- a call with bytes for the longest strip
 module _ (n : ℕ) (t : List ℤ) (l : List ℕ) (long : maxSaved ≤ length l) where
-  save-writes : Writes l (tableOutput (check n t) n t) (saveCall n t l .answer) (saveCall n t l .strip)
+  save-writes : Writes l (tableOutput (saveCheck n t) n t) (saveCall n t l .answer) (saveCall n t l .strip)
   unfolding saveCall
-  save-writes = go (check n t) refl
+  save-writes = go (saveCheck n t) refl
     where
-      named : Accepted n t → (m : Bool) → let w = cond m (savedCall (savedStrip n t) l) (saveRefused (refusal UnmentionedVariable 0) l) in
-          Writes l (cond m (strip (savedStrip n t)) (message (refusedText (refusal UnmentionedVariable 0)))) (w .answer) (w .strip)
-      named e true =
-          let b = savedStrip n t in
-          let h : length b ≤ length l = omega (arith, saved-most n t e) in
-          rw (le-ltb (length l) (length b) h) (refl, omega (arith, length-append b (drop (length b) l)))
-      named e false = (refl, refl)
-
-      go : (c : Checked) → check n t ≡ c → Writes l (tableOutput c n t) (saveChecked c n t l .answer) (saveChecked c n t l .strip)
+      go : (c : Checked) → saveCheck n t ≡ c → Writes l (tableOutput c n t) (saveChecked c n t l .answer) (saveChecked c n t l .strip)
       go (checked.Refused f) e = (refl, refl)
-      go checked.Passed e = named e (mentionsAll n t)
+      go checked.Passed e =
+          let b = savedStrip n t in
+          let h : length b ≤ length l = omega (arith, saved-most n t (save-passed n t e .0)) in
+          rw (le-ltb (length l) (length b) h) (refl, omega (arith, length-append b (drop (length b) l)))
 
-  pub writes : {r : Saving} {l′ : List ℕ} {o : Output} → saveCalled r l′ ≡ saveCall n t l → tableOutput (check n t) n t ≡ o → Writes l o r l′
+  pub writes : {r : Saving} {l′ : List ℕ} {o : Output} → saveCalled r l′ ≡ saveCall n t l → tableOutput (saveCheck n t) n t ≡ o → Writes l o r l′
   writes is e = rw (← is, e) at save-writes

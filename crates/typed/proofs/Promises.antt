@@ -15,12 +15,10 @@ use Rattle.general.specs.Times.{times}
 use Rattle.receipt.specs.declared.Checked.{Checked}
 use Rattle.receipt.specs.declared.Checked.the-variants.{Passed, Refused}
 use Rattle.receipt.specs.declared.Reading.the-variants.{Read}
-use Rattle.receipt.specs.declared.Fault.the-variants.{UnmentionedVariable}
-use Rattle.receipt.specs.Receipt.{refusal}
-use Rattle.theory.specs.Mentions.{mentionsAll}
-use Rattle.theory.specs.Table.{check}
+use Rattle.theory.specs.Calls.{saveCheck}
 use Rattle.theory.specs.Strip.{readStrip}
 use Rattle.theory.specs.Encoding.{savedStrip}
+use Rattle.save.proofs.Calling.{save-passed}
 use Rattle.save.proofs.RoundTrip.{saved-reads}
 use Rattle.scan.specs.Scan.{Filing, filing, wrong, filingOf}
 use Rattle.text.specs.Text.{codes, refusedText}
@@ -31,7 +29,7 @@ use Rattle.typed.proofs.Messages.{one-line, refused-line}
 
 filed-output : {s : List ℕ} {n : ℕ} {t : List ℤ} → Filed s n t → outputOf s ≡ strip (savedStrip n t)
 unfolding outputOf
-filed-output {s} f = rw (le-ltb maxText (length s) (f .short), f .is, f .accepted, f .mentioned)
+filed-output {s} f = rw (le-ltb maxText (length s) (f .short), f .is, f .accepted)
 
 -- what an output says of its text
 abbrev Says : List ℕ → Output → Type 0
@@ -45,17 +43,13 @@ says s = go (ltb maxText (length s)) refl (filingOf s) refl
     no : (b : List ℕ) → message b ≡ outputOf s → (n : ℕ) (t : List ℤ) → Filed s n t → ⊥
     no b e n t f = let q = e ∙ filed-output f in let z : _≡_ {A = ℕ} 0 1 = cc in omega arith
 
-    table : ltb maxText (length s) ≡ false → (n : ℕ) (t : List ℤ) → filingOf s ≡ filing n t → (c : Checked) → check n t ≡ c → Says s (tableOutput c n t)
-    table h n t q Passed e = named (mentionsAll n t) refl
-      where
-        named : (m : Bool) → mentionsAll n t ≡ m → Says s (cond m (strip (savedStrip n t)) (message (refusedText (refusal UnmentionedVariable 0))))
-        named true k = (n, t, record { short = ltb-false maxText (length s) h; is = q; accepted = e; mentioned = k }, refl)
-        named false k = (refused-line (refusal UnmentionedVariable 0), no (refusedText (refusal UnmentionedVariable 0)) (rw (h, q, e, k)))
+    table : ltb maxText (length s) ≡ false → (n : ℕ) (t : List ℤ) → filingOf s ≡ filing n t → (c : Checked) → saveCheck n t ≡ c → Says s (tableOutput c n t)
+    table h n t q Passed e = (n, t, record { short = ltb-false maxText (length s) h; is = q; accepted = e }, refl)
     table h n t q (Refused f) e = (refused-line f, no (refusedText f) (rw (h, q, e)))
 
     go : (b : Bool) → ltb maxText (length s) ≡ b → (f : Filing) → filingOf s ≡ f → Says s (cond b (message tooLongText) (filingOutput f))
     go true h f q = (one-line (codes "text too long at byte") (maxText ∷ []) refl, no tooLongText (rw h))
-    go false h (filing n t) q = table h n t q (check n t) refl
+    go false h (filing n t) q = table h n t q (saveCheck n t) refl
     go false h (wrong at) q = (one-line (codes "no valid number at byte") (at ∷ []) refl, no (wrongText at) (rw (h, q)))
 
 module _ (s : List ℕ) (r : Typed) (old out : List ℕ) (call : called r out ≡ outputCall (outputOf s) old) where
@@ -74,7 +68,7 @@ module _ (s : List ℕ) (r : Typed) (old out : List ℕ) (call : called r out �
       go (strip b) = drop-append-seam b (drop (length b) old)
       go (message b) = drop-append-seam b (drop (length b) old)
 
-  -- a strip is written exactly where the text is a filing whose table is accepted and names every placement, and it is the strip that Save makes of it
+  -- a strip is written exactly where the text is a filing whose table Save accepts, and it is the strip that Save makes of it
   pub typed-strip : (b : List ℕ) → (written r out ≡ strip b) ↔ ((n : ℕ) × (t : List ℤ) × Filed s n t × (b ≡ savedStrip n t))
   typed-strip b = (λ e. rw (sym writes ∙ e) at (says s), λ w. writes ∙ filed-output (w .2) ∙ ap strip (sym (w .3)))
 
@@ -83,7 +77,7 @@ module _ (s : List ℕ) (r : Typed) (old out : List ℕ) (call : called r out �
       (n : ℕ) × (t : List ℤ) × (filingOf s ≡ filing n t) × ((room : ℕ) → length t ≤ room → readStrip b room ≡ record { reading = Read n (length t); table = t })
   typed-reads b e =
       let w = typed-strip b .0 e in
-      (w .0, w .1, w .2 .is, λ room h. ap (λ (x : List ℕ). readStrip x room) (w .3) ∙ saved-reads (w .0) (w .1) (w .2 .accepted) (w .2 .mentioned) room h)
+      (w .0, w .1, w .2 .is, λ room h. ap (λ (x : List ℕ). readStrip x room) (w .3) ∙ let p = save-passed (w .0) (w .1) (w .2 .accepted) in saved-reads (w .0) (w .1) (p .0) (p .1) room h)
 
   -- every other text gets a message of one line
   pub typed-message : ((n : ℕ) (t : List ℤ) → Filed s n t → ⊥) ↔ ((b : List ℕ) × (written r out ≡ message b) × OneLine b)

@@ -9,12 +9,8 @@ use lib.ListN.{length, take}
 use Rattle.general.specs.Times.{times}
 use Rattle.receipt.specs.declared.Checked.{Checked}
 use Rattle.receipt.specs.declared.Checked.the-variants.{Passed, Refused}
-use Rattle.receipt.specs.declared.Fault.the-variants.{UnmentionedVariable}
-use Rattle.receipt.specs.Receipt.{refusal}
-use Rattle.theory.specs.Mentions.{mentionsAll, Mentioned}
-use Rattle.theory.specs.Table.{check, Accepted}
 use Rattle.theory.specs.Encoding.{savedStrip}
-use Rattle.theory.specs.Calls.{over}
+use Rattle.theory.specs.Calls.{over, saveCheck}
 use Rattle.scan.specs.Scan.{Filing, filing, wrong, filingOf}
 use Rattle.text.specs.Text.{codes, decimal, line, refusedText}
 use Rattle.typed.specs.declared.Typed.{Typed}
@@ -42,10 +38,10 @@ wrongText at = placeText (codes "no valid number at byte") at
 -- a table that Save refuses gets the layout program's line
 abbrev pub tableOutput : Checked → ℕ → List ℤ → Output
 tableOutput (Refused f) n t = message (refusedText f)
-tableOutput Passed n t = cond (mentionsAll n t) (strip (savedStrip n t)) (message (refusedText (refusal UnmentionedVariable 0)))
+tableOutput Passed n t = strip (savedStrip n t)
 
 abbrev pub filingOutput : Filing → Output
-filingOutput (filing n t) = tableOutput (check n t) n t
+filingOutput (filing n t) = tableOutput (saveCheck n t) n t
 filingOutput (wrong at) = message (wrongText at)
 
 unfoldable pub outputOf : List ℕ → Output
@@ -77,12 +73,11 @@ abbrev pub written : Typed → List ℕ → Output
 written (Strip k) out = strip (take k out)
 written (Message k) out = message (take k out)
 
--- a text within the limit that is a filing whose table is accepted and names every placement
+-- a text within the limit that is a filing whose table Save accepts, where there is room
 pub record Filed (s : List ℕ) (n : ℕ) (t : List ℤ) : Type 0 where
   pub short : length s ≤ maxText
   pub is : filingOf s ≡ filing n t
-  pub accepted : Accepted n t
-  pub mentioned : Mentioned n t
+  pub accepted : saveCheck n t ≡ Passed
 
 -- one line: it ends in a newline, and has no other
 abbrev pub OneLine : List ℕ → Type 0

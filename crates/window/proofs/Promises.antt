@@ -12,7 +12,7 @@ use lib.IntN.{ℤ, pos as posℤ}
 use lib.ListN.{length, take, drop, replicate, length-map, length-append, length-replicate}
 use Rattle.general.specs.Booleans.{bit}
 use Rattle.literal.specs.Literal.{entryOf, maxVariables, maxTable}
-use Rattle.receipt.specs.declared.Fault.the-variants.{PlanShort, ReceiptShort, TableShort}
+use Rattle.receipt.specs.declared.Fault.the-variants.{PlanShort, ReceiptShort, TableShort, UnmentionedVariable}
 use Rattle.receipt.specs.declared.Outcome.{Outcome}
 use Rattle.receipt.specs.declared.Outcome.the-variants.{LaidOut, NoLayout, Stopped}
 use Rattle.receipt.specs.declared.Reading.{Reading}
@@ -37,9 +37,11 @@ use Rattle.theory.proofs.Mentions.{mentioned-exactly}
 use Rattle.theory.proofs.Tables.{accepted-sizes, accepted-exactly as table-accepted}
 use Rattle.strip.proofs.Accepted.{read-accepted}
 use Rattle.strip.proofs.Ends.{Ended, answered}
-use Rattle.strip.proofs.Promises.{within-reads, accepted-exactly}
+use Rattle.strip.proofs.Encoded.{within-reads}
+use Rattle.strip.proofs.Promises.{accepted-exactly}
 use Rattle.search.specs.Call as search
 use Rattle.strip.proofs.Receipts.{strip-names, strip-unmentioned}
+use Rattle.strip.proofs.Unmentioned.{unmentioned-exactly}
 use Rattle.search.proofs.Calling.{call-plan-short}
 use Rattle.search.proofs.Promises as promises
 use Rattle.window.specs.Window.{called}
@@ -167,7 +169,7 @@ module _ {s : List ℕ} {b : ℕ} {plan old : List ℕ} {w : WindowCall} (h : St
   pub window-refused-unchanged : ((o : Outcome) → ¬ Reports w o) → (f : Refusal) × (w ≡ refusedCall f plan old)
   window-refused-unchanged k = ⊎-elim (λ r. (r .0, r .1)) (λ a. absurd (k (a .4 .0) (a .4 .1))) fate
 
-  -- what is answered with another number than 6 and those of outcomes is a refusal of the strip
+  -- a number above 11 is that of a refusal of the strip
   of-strip : 11 < w .number → (f : Refusal) × (w ≡ refusedCall f plan old) × (readStrip s maxTable .reading ≡ Refused f)
   of-strip k = ⊎-elim
       (λ r. ⊎-elim
@@ -181,13 +183,17 @@ module _ {s : List ℕ} {b : ℕ} {plan old : List ℕ} {w : WindowCall} (h : St
   not-short e = let r = of-strip (omega arith) in refused-not-short s (r .0) (r .2) (sym (ap (λ (c : WindowCall). c .number) (r .1)) ∙ e)
 
   -- A3: 26 is for a strip that doesn't name every placement before the end mark at the place
-  pub window-unmentioned : Bytes s → w .number ≡ 26 → UnmentionedInStrip s (receiptOn (w .receipt) .place)
+  pub window-unmentioned : Bytes s → w .number ≡ 26 → UnmentionedInStrip s maxTable (receiptOn (w .receipt) .place)
   window-unmentioned b e =
       let r = of-strip (omega arith) in
       let place : receiptOn (w .receipt) .place ≡ r .0 .place =
       ap (λ (c : WindowCall). receiptOn (c .receipt) .place) (r .1) ∙ numbers-read (refusedReceipt (r .0)) old .1 in
       let told = rw (r .2) at (strip-unmentioned s b maxTable) in
       rw place (told (sym (ap (λ (c : WindowCall). c .number) (r .1)) ∙ e))
+
+  -- and for every such strip, before 6
+  pub window-unmentioned-refused : Bytes s → (i : ℕ) → UnmentionedInStrip s maxTable i → w ≡ refusedCall (refusal UnmentionedVariable i) plan old
+  window-unmentioned-refused b i u = window-strip-refused (refusal UnmentionedVariable i) (unmentioned-exactly s b maxTable i .1 u)
 
 -- "strip refusals except 23": no call is answered with it
 pub window-never-short : (s : List ℕ) (b : ℕ) (plan old : List ℕ) (w : WindowCall) → w ≡ windowCall s b plan old → ¬ (w .number ≡ numberOf TableShort)
@@ -239,9 +245,8 @@ module _ {s : List ℕ} {n : ℕ} {l : List Item} {b : ℕ} {plan old : List ℕ
   is-formula : clauses table ≡ groups l
   is-formula = clauses-table (groups l) (h .acceptable .strip .limits .known .low)
 
-  -- A3: no placement is left out "for want of a rule": each stands in a group of the strip
-  pub window-mentions-all : AllStand n (groups l)
-  window-mentions-all = rw is-formula at (mentioned-exactly n table (table-accepted n table .1 (call .acceptable .table)) .0 (h .acceptable .strip .mentioned))
+  all-stand : AllStand n (groups l)
+  all-stand = rw is-formula at (mentioned-exactly n table (table-accepted n table .1 (call .acceptable .table)) .0 (h .acceptable .strip .mentioned))
 
   -- demand 1: "a search brings back a layout, no layout, or a stop"
   pub window-ends : Reports w LaidOut ⊎ Reports w NoLayout ⊎ Reports w Stopped
@@ -301,6 +306,13 @@ window-accepts {s} h bytes = (
       (fate h),
   λ a. ⊎-elim (λ e. (LaidOut, e)) (⊎-elim (λ e. (NoLayout, e)) (λ e. (Stopped, e))) (window-ends (record { bytes = bytes; acceptable = a .2; stamped = h })),
 )
+
+-- A3: no placement is left out "for want of a rule": what is searched is a strip's groups, and each placement stands in one of them
+pub window-mentions-all : {s : List ℕ} {b : ℕ} {plan old : List ℕ} {w : WindowCall} → Stamped s b plan old w → Bytes s → (o : Outcome) → Reports w o →
+    (n : ℕ) × (l : List Item) × Acceptable s n l plan × AllStand n (groups l)
+window-mentions-all h bytes o r =
+    let a = window-accepts h bytes .0 (o, r) in
+    (a .0, a .1, a .2, all-stand (record { bytes = bytes; acceptable = a .2; stamped = h }))
 
 -- demand 3: "whatever the plan and the trail held before", and whatever the strip's chapters: its groups are the filing ------------------------------
 

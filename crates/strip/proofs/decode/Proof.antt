@@ -12,7 +12,7 @@ use Rattle.literal.specs.Literal.{maxTable}
 use Rattle.theory.specs.declared.Stored.the-variants as stored
 use Rattle.theory.specs.declared.Obeyed.the-variants as obeyed
 use Rattle.theory.specs.Strip.{readBy}
-use Rattle.strip.proofs.Reached.{Reached, begun, ended, no-command, Commanded, further, not-obeyed, kept, no-room, has-cell, stored, done}
+use Rattle.strip.proofs.Reached.{Reached, begun, ended, no-command, Commanded, further, not-obeyed, kept, no-room, has-cell, stored, effect}
 use Rattle.strip.proofs.decode.Statement.{statement}
 use Rattle.strip.proofs.decode.Tie as tie
 
@@ -59,12 +59,12 @@ abbrev at-further : (c : tie.After-further Inv-loop μ-loop) →
 at-further c = commanded (c .before .before .before .before .before)
 
 going : (c : tie.After-further Inv-loop μ-loop) →
-    obeyed.Goes (c .further .given .0 .0) (c .further .given .0 .1 .0) ≡ done (at-further c)
+    obeyed.Goes (c .further .given .0 .0) (c .further .given .0 .1 .0) ≡ effect (at-further c)
 going c = sym (c .further .given .1) ∙ c .before .before .obey .ensures _ (at-further c .reached .noted)
 
 storing : (c : tie.After-stored Inv-loop μ-loop) →
     let g = c .before .before .before in
-    obeyed.Goes (g .further .given .0 .0) (stored.Element (c .stored .given .0 .0)) ≡ done (at-further g)
+    obeyed.Goes (g .further .given .0 .0) (stored.Element (c .stored .given .0 .0)) ≡ effect (at-further g)
 storing c = rw (c .stored .given .1) at (going (c .before .before .before))
 
 returns-4 : tie.Need-returns-4 Inv-loop μ-loop

@@ -5,7 +5,7 @@ use Prim.Native.Nat.{_≤_}
 use native.Mathlib.Omega.{arith}
 use lib.ListN.{length, take}
 use lib.Seq.{length-take-le}
-use Rattle.theory.specs.Table.{check}
+use Rattle.theory.specs.Calls.{saveCheck}
 use Rattle.scan.specs.Answers.{scannedOf}
 use Rattle.typed.specs.Typed.{tableOutput, filingOutput, outputOf}
 use Rattle.typed.proofs.Outputs.{too-long, short, message-written, Writes, writes}
@@ -21,7 +21,7 @@ table-output : (c : tie.After-variables) →
     let f = c .before .before .before in
     let n = c .variables .given .0 .0 in
     let t = take (c .variables .given .0 .1 .0) (f .filing .last .1 .0) in
-    tableOutput (check n t) n t ≡ outputOf (f .before .before .before .before .args .text .now)
+    tableOutput (saveCheck n t) n t ≡ outputOf (f .before .before .before .before .args .text .now)
 table-output c = rw (c .variables .given .1) at (read (c .before .before .before))
 
 cells-used : (c : tie.After-variables) → c .variables .given .0 .1 .0 ≤ length (c .before .before .before .filing .last .1 .0)
