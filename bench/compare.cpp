@@ -122,6 +122,23 @@ static bool options(int argc, char **argv, Options &o) {
     return o.layout != nullptr;
 }
 
+static void make_file(char *name) {
+    int handle = mkstemp(name);
+    if (handle < 0 || close(handle)) {
+        perror(name);
+        exit(2);
+    }
+}
+
+static bool differs(const own::Answer &a, const own::Answer &b) {
+    return a.number != b.number || a.place != b.place || a.count != b.count || a.plan != b.plan;
+}
+
+static uint32_t any_allowance(unsigned long most) {
+    const uint32_t allowances[] = {0, 1, (uint32_t)below(8), (uint32_t)most};
+    return allowances[std::min(3, below(8))];
+}
+
 int main(int argc, char **argv) {
     Options o;
     if (!options(argc, argv, o)) {
@@ -130,23 +147,18 @@ int main(int argc, char **argv) {
     }
     source.seed(o.seed);
     char file[] = "/tmp/compare.XXXXXX";
-    int handle = mkstemp(file);
-    if (handle < 0 || close(handle)) {
-        perror(file);
-        return 2;
-    }
+    make_file(file);
     unsigned long differ = 0, trails = 0, splits = 0;
     std::map<int, unsigned long> numbers;
     for (unsigned long k = 0; k < o.filings; k++) {
         own::Filing f = any_filing();
         if (k % 7 != 0) name_all(f);
-        const uint32_t allowances[] = {0, 1, (uint32_t)below(8), (uint32_t)o.most_splits};
-        uint32_t allowance = allowances[std::min(3, below(8))];
+        uint32_t allowance = any_allowance(o.most_splits);
         std::vector<uint8_t> strip = strip_of(f);
         own::Answer a = by_own(strip, allowance), b = by_window(strip, f.n, allowance);
         numbers[a.number]++;
         splits += a.count;
-        if (a.number != b.number || a.place != b.place || a.count != b.count || a.plan != b.plan) {
+        if (differs(a, b)) {
             show(f, allowance, "an answer");
             differ++;
         }
