@@ -1,6 +1,6 @@
 -- How a reading ends: with a strip of the grammar, whose table fits the room, or with a refusal, its place in the strip; and with room for a table at the
 -- limits no strip is refused for want of room.
-use mathlib.Core.Path.{_≡_, refl, ap, sym, subst}
+use mathlib.Core.Path.{_≡_, refl, sym, subst}
 use mathlib.Core.Bool.{Bool, true, false, cond}
 use mathlib.Core.Logic.{_≢_}
 use mathlib.Core.List.{List, [], _∷_, _++_, append-nil, List·Memᴰ·not-nil}
@@ -125,8 +125,8 @@ module _ (s : List ℕ) (room : ℕ) where
   refusal-bound f e = let a : Ended 0 nothingRead [] (Refused f) (readStrip s room .table) = rw e at answered in a .1
 
   -- "strip refusals except 23"
-  pub never-short : (f : Refusal) → maxTable ≤ room → readStrip s room .reading ≡ Refused f → f .fault ≢ TableShort
-  never-short f w e q = let a : Ended 0 nothingRead [] (Refused f) (readStrip s room .table) = rw e at answered in a .2 w (ap numberOf q)
+  pub never-short : (f : Refusal) → maxTable ≤ room → readStrip s room .reading ≡ Refused f → numberOf (f .fault) ≢ numberOf TableShort
+  never-short f w e = let a : Ended 0 nothingRead [] (Refused f) (readStrip s room .table) = rw e at answered in a .2 w
 
   -- 24 is for a strip "over 16,384 bytes" alone
   pub too-long : (f : Refusal) → readStrip s room .reading ≡ Refused f → numberOf (f .fault) ≡ numberOf StripTooLong → maxStrip < length s

@@ -4,7 +4,7 @@ use mathlib.Core.Path.{_≡_, refl, ap, sym, _∙_}
 use mathlib.Core.Bool.{Bool, true, false, cond}
 use mathlib.Core.Logic.{_↔_}
 use mathlib.Core.List.{List, []}
-use Prim.Native.Nat.{ℕ, zero, suc, _+_, _-_, _≤_}
+use Prim.Native.Nat.{ℕ, zero, suc, _+_, _-_, _<_, _≤_}
 use native.Mathlib.Decide.{decLt}
 use native.Mathlib.Omega.{arith}
 use borrow.Author.Tests.{lt-ltb, le-ltb}
@@ -41,12 +41,15 @@ module _ (s : List ℕ) (m : ℕ) (long : m ≤ length s) where
   front-length : length front ≡ m
   front-length = length-take-le m s long
 
+  word-same : (i : ℕ) → i + 2 < m → operandAt front i 2 ≡ operandAt s i 2
+  word-same i h = rw (getD-take m s (i + 1) 0 (omega arith), getD-take m s (i + 2) 0 (omega arith))
+
   operand-same : (i : ℕ) (k : Mark) → i + 1 + operandBytes k ≤ m → operandAt front i (operandBytes k) ≡ operandAt s i (operandBytes k)
-  operand-same i Placements h = rw (getD-take m s (i + 1) 0 (omega arith), getD-take m s (i + 2) 0 (omega arith))
+  operand-same i Placements h = word-same i (omega arith)
   operand-same i Chapter h = getD-take m s (i + 1) 0 (omega arith)
   operand-same i Opens h = refl
-  operand-same i Taken h = rw (getD-take m s (i + 1) 0 (omega arith), getD-take m s (i + 2) 0 (omega arith))
-  operand-same i LeftOut h = rw (getD-take m s (i + 1) 0 (omega arith), getD-take m s (i + 2) 0 (omega arith))
+  operand-same i Taken h = word-same i (omega arith)
+  operand-same i LeftOut h = word-same i (omega arith)
   operand-same i Closes h = refl
   operand-same i Ends h = refl
 

@@ -19,10 +19,11 @@ unfoldable pub mentionsAll : ℕ → List ℤ → Bool
 mentionsAll zero t = true
 mentionsAll (suc n) t = mentionsAll n t && mentions t (suc n)
 
+-- the table keeps the rule
 abbrev pub Mentioned : ℕ → List ℤ → Type 0
 Mentioned n t = mentionsAll n t ≡ true
 
--- the same of a formula: a placement stands in a group
+-- the same of a formula: placement p stands in a group
 pub record StandsIn (f : Formula) (p : ℕ) : Type 0 where
   pub clause : Clause
   pub literal : Literal
@@ -30,5 +31,6 @@ pub record StandsIn (f : Formula) (p : ℕ) : Type 0 where
   pub of-clause : List·Memᴰ literal clause
   pub is : var literal ≡ p
 
+-- and so does each from 1 to n
 abbrev pub AllStand : ℕ → Formula → Type 0
 AllStand n f = (p : ℕ) → 0 < p → p ≤ n → StandsIn f p

@@ -118,7 +118,7 @@ entered p l =
     (Goes (progress Inside (p .variables) (p .clauses) (p .literals + 1)) (Element (entryOf l)))
     (Refused TooManyLiterals))
 
--- the end mark: "26, unnamed placement, in reading at the end mark" (document 02, A3), unless it may stand here
+-- the end mark: it may stand here, or it is "26, unnamed placement, in reading at the end mark" (document 02, A3)
 abbrev pub ended : Progress → Bool → Obeyed
 ended p may = cond may (Goes (progress After (p .variables) (p .clauses) (p .literals)) Nothing) (Refused UnmentionedVariable)
 

@@ -30,13 +30,13 @@ use Rattle.theory.specs.Formula.{Formula, Choice, clauses, Solution}
 use Rattle.theory.specs.Mentions.{AllStand}
 use Rattle.theory.specs.Order.{_≼_, Least}
 use Rattle.theory.specs.Search.{needs}
-use Rattle.theory.specs.Strip.{Decoding, nothingRead, readStrip}
+use Rattle.theory.specs.Strip.{Decoding, readStrip}
 use Rattle.theory.specs.Unknown.{UnknownInStrip, Names}
 use Rattle.theory.proofs.Encodings.{clauses-table}
 use Rattle.theory.proofs.Mentions.{mentioned-exactly}
 use Rattle.theory.proofs.Tables.{accepted-sizes, accepted-exactly as table-accepted}
 use Rattle.strip.proofs.Accepted.{read-accepted}
-use Rattle.strip.proofs.Ends.{Ended, answered}
+use Rattle.strip.proofs.Ends.{never-short}
 use Rattle.strip.proofs.Encoded.{within-reads}
 use Rattle.strip.proofs.Promises.{accepted-exactly}
 use Rattle.search.specs.Call as search
@@ -86,10 +86,6 @@ outcome-low : (o : Outcome) → outcomeNumber o ≤ 11
 outcome-low LaidOut = omega arith
 outcome-low NoLayout = omega arith
 outcome-low Stopped = omega arith
-
--- no other refusal has the number of a table short
-refused-not-short : (s : List ℕ) (f : Refusal) → readStrip s maxTable .reading ≡ Refused f → ¬ (numberOf (f .fault) ≡ numberOf TableShort)
-refused-not-short s f e = let a : Ended s maxTable 0 nothingRead [] (Refused f) (readStrip s maxTable .table) = rw e at (answered s maxTable) in a .2 (omega arith)
 
 -- demand 1: a receipt too short --------------------------------------------------------------------------------------
 
@@ -180,7 +176,7 @@ module _ {s : List ℕ} {b : ℕ} {plan old : List ℕ} {w : WindowCall} (h : St
       fate
 
   not-short : ¬ (w .number ≡ numberOf TableShort)
-  not-short e = let r = of-strip (omega arith) in refused-not-short s (r .0) (r .2) (sym (ap (λ (c : WindowCall). c .number) (r .1)) ∙ e)
+  not-short e = let r = of-strip (omega arith) in never-short s maxTable (r .0) (omega arith) (r .2) (sym (ap (λ (c : WindowCall). c .number) (r .1)) ∙ e)
 
   -- A3: 26 is for a strip that doesn't name every placement before the end mark at the place
   pub window-unmentioned : Bytes s → w .number ≡ 26 → UnmentionedInStrip s maxTable (receiptOn (w .receipt) .place)
