@@ -1,6 +1,6 @@
 -- What Add asks before it writes: the first wrong element of the list, the checks in their order, and the room that they leave.
 use mathlib.Core.Option.{Option, none, some}
-use Prim.Native.Nat.{ℕ, zero, suc, _+_, _≤_, _<_, min}
+use Prim.Native.Nat.{ℕ, zero, suc, _+_, _≤_, _<_}
 use mathlib.Core.Path.{_≡_, refl, ap}
 use mathlib.Core.Bool.{Bool, true, false, not, _||_, cond}
 use mathlib.Core.Logic.{_↔_}
@@ -24,8 +24,9 @@ use Rattle.receipt.specs.declared.Checked.{Checked}
 use Rattle.receipt.specs.declared.Checked.the-variants.{Passed, Refused}
 use Rattle.theory.specs.Table.{zeros, nonzeros, refused, check}
 use Rattle.theory.specs.Calls.{AddCall, addRefused, isWrong, listUnknown, unknownIn, added, addKnown, addChecked, addCall}
-use Rattle.theory.proofs.Tables.{past, known-variable, accepted-exactly}
-use Rattle.table.specs.Tally.{clauseAfter}
+use Rattle.theory.proofs.Tables.{past, known-variable, accepted-sizes, accepted-exactly}
+use Rattle.table.specs.Progress.{begin, enoughClauses, clauseNext, after}
+use Rattle.table.proofs.Passes.{clauses-exact, literals-exact}
 use Rattle.add.specs.Addable.{Addable}
 use Rattle.add.specs.Add.{known, firstRefusal, atMost, checkAdded, called}
 
@@ -82,14 +83,22 @@ module _ (b : List ℤ) where
   unfolding addCall checkAdded
   call-checked u n g = simp (first-then, limit-then) (rw (checked-then (check n (take u b)) u n g, known-then (unknownIn u (zeros (take u b) + 1) n g) u g))
 
--- where the list isn't refused for the number of clauses, that number is its own
-pub list-numbered : (u z n : ℕ) (g : List ℤ) (c d : Checked) →
-    let limits = firstRefusal (atMost (z + 1) maxClauses TooManyClauses) c in
-    firstRefusal limits (firstRefusal (unknownIn u (clauseAfter z .0) n g) d) ≡ firstRefusal limits (firstRefusal (unknownIn u (z + 1) n g) d)
-list-numbered u z n g c d = elim (decLt z maxClauses) [
-  | yes h ↦ let k : min z maxClauses ≡ z = omega arith in rw k
-  | no h ↦ rw (lt-ltb maxClauses (z + 1) (omega arith))
-]
+-- the checks after that of the used part t, which ask only where it passes, by the counts of the state after it
+module _ (u n : ℕ) (g t : List ℤ) (d : Checked) where
+  abbrev byCounts : ℕ → ℕ → ℕ → Checked
+  byCounts z y k = firstRefusal (firstRefusal (atMost (z + 1) maxClauses TooManyClauses) (atMost (y + length g) maxLiterals TooManyLiterals)) (firstRefusal (unknownIn u k n g) d)
+
+  pub counts-exact : let s = after (begin n) t in
+      firstRefusal (check n t) (byCounts (s .clauses) (s .literals) (clauseNext s .0)) ≡ firstRefusal (check n t) (byCounts (zeros t) (nonzeros t) (zeros t + 1))
+  counts-exact = go (check n t) refl
+    where
+      go : (k : Checked) → check n t ≡ k →
+          let s = after (begin n) t in
+          firstRefusal k (byCounts (s .clauses) (s .literals) (clauseNext s .0)) ≡ firstRefusal k (byCounts (zeros t) (nonzeros t) (zeros t + 1))
+      go (Refused r) e = refl
+      go Passed e =
+          let z : zeros t < enoughClauses = omega (arith, accepted-sizes n t e .clauses) in
+          rw (clauses-exact n t e, literals-exact n t e, lt-ltb (zeros t) enoughClauses z)
 
 -- all checks pass exactly when the list may be added ----------------------------------------------------------------
 

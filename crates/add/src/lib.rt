@@ -9,6 +9,7 @@ use literal::Literal;
 use receipt::Adding;
 use receipt::Checked;
 use receipt::Fault;
+use table::Progress;
 
 // Whether an element of the list, by its size, is an entry of a placement from 1 to n. A zero isn't.
 fn known(n: usize, size: u16) -> bool
@@ -60,19 +61,19 @@ fn check_added(buffer: &[i16], used: usize, n: usize, group: &[i16]) -> Checked
     }
     // No sum below wraps: a slice of 16-bit numbers has fewer than 2^62 elements.
     let count = group.len();
-    let tally = table::tally_of(n, &buffer[..used]);
-    let used_part = table::verdict(n, tally);
+    let progress = Progress::begin(n).after(&buffer[..used]);
+    let used_part = progress.verdict();
     let clauses = at_most(
-        tally.clauses + 1,
+        progress.clauses as usize + 1,
         Literal::MAX_CLAUSES,
         Fault::TooManyClauses,
     );
     let literals = at_most(
-        tally.literals + count,
+        progress.literals as usize + count,
         Literal::MAX_LITERALS,
         Fault::TooManyLiterals,
     );
-    let unknown = unknown_in(used, table::clause_after(tally.clauses), n, group);
+    let unknown = unknown_in(used, progress.clause_next(), n, group);
     let room = at_most(used + count + 1, buffer.len(), Fault::TableShort);
     let limits = first_refusal(clauses, literals);
     let list = first_refusal(unknown, room);

@@ -10,6 +10,7 @@ use receipt::Fault;
 use receipt::Head;
 use receipt::Indexing;
 use receipt::Refusal;
+use table::Progress;
 
 // A group's head, and the index after the 0 that closes the group.
 pub struct Next {
@@ -58,20 +59,21 @@ fn refused(refusal: Refusal) -> Due
 fn due_of(table: &[i16], n: usize, room: usize) -> Due
     ensures { λ r. ⌜ r ≡ dueOf n (now (table .entry)) room ⌝ }
 {
-    let tally = table::tally_of(n, table);
-    let checked = table::verdict(n, tally);
+    let progress = Progress::begin(n).after(table);
+    let checked = progress.verdict();
     match checked {
         Checked::Refused(refusal) => {
             return refused(refusal);
         }
         Checked::Passed => {}
     }
-    if room < tally.clauses {
+    let groups = progress.clauses as usize;
+    if room < groups {
         return refused(Refusal::new(Fault::HeadsShort, 0));
     }
     Due {
         answer: Indexing::Indexed,
-        heads: tally.clauses,
+        heads: groups,
     }
 }
 

@@ -1,5 +1,7 @@
 -- What each answer puts on the receipt, and the values that it gives.
 use Prim.Native.Nat.{ℕ}
+use Rattle.receipt.specs.declared.Checked.{Checked}
+use Rattle.receipt.specs.declared.Checked.the-variants as checked
 use Rattle.receipt.specs.declared.Settling.{Settling}
 use Rattle.receipt.specs.declared.Settling.the-variants as settling
 use Rattle.receipt.specs.declared.Searching.{Searching}
@@ -14,6 +16,11 @@ use Rattle.receipt.specs.declared.Saving.{Saving}
 use Rattle.receipt.specs.declared.Saving.the-variants as saving
 use Rattle.receipt.specs.declared.Receipt.{Receipt}
 use Rattle.receipt.specs.Receipt.{outcomeNumber, done, receipt, refusedReceipt}
+
+-- the table check by itself (document 02, A4): 18 done
+abbrev pub checkedReceipt : Checked → Receipt
+checkedReceipt checked.Passed = receipt done 0 0
+checkedReceipt (checked.Refused r) = refusedReceipt r
 
 -- Settle: 13 settled, 10 no layout
 abbrev pub settlingReceipt : Settling → Receipt

@@ -1,7 +1,7 @@
 // What an operation answers, by cases, and what each answer puts on the receipt.
 ghost use mathlib.Core.Path.{_≡_};
 ghost use Rattle.receipt.specs.Receipt.{numberOf, namedClause, outcomeNumber, refusal, receipt, refusedReceipt};
-ghost use Rattle.receipt.specs.Answers.{settlingReceipt, searchingReceipt, indexingReceipt, addingReceipt, addedLength, readingReceipt, readVariables, readLength, savingReceipt};
+ghost use Rattle.receipt.specs.Answers.{checkedReceipt, settlingReceipt, searchingReceipt, indexingReceipt, addingReceipt, addedLength, readingReceipt, readVariables, readLength, savingReceipt};
 use literal::ClauseNumber;
 
 // Why a call is refused: the rows of document 01's table of numbers that refuse, in its order, then those of document 02.
@@ -114,10 +114,25 @@ impl Refusal {
     }
 }
 
+// Document 02's "18, done": the number of each of its operations that has no outcome of its own.
+const DONE: u32 = 18;
+
 // A table, looked at by every operation before anything else.
 pub enum Checked {
     Passed,
     Refused(Refusal),
+}
+
+impl Checked {
+    pub fn receipt(self) -> Receipt
+        ensures { λ r. ⌜ r ≡ checkedReceipt self ⌝ }
+    {
+        let answer = self;
+        match answer {
+            Checked::Passed => plain(DONE, 0, 0),
+            Checked::Refused(refusal) => refusal.receipt(),
+        }
+    }
 }
 
 // How a search ends that is not refused.
@@ -268,9 +283,6 @@ impl Reading {
         }
     }
 }
-
-// Document 02's "18, done": the number of each of its operations that has no outcome of its own.
-const DONE: u32 = 18;
 
 // Save: the number of bytes written.
 pub enum Saving {

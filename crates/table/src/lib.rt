@@ -1,49 +1,37 @@
-// The table check of document 01: refusals 1 to 5, from one pass over the table.
+// The table check of document 01: refusals 1 to 5, from one pass over the table, which may be handed over in parts (document 02, A4).
 ghost use mathlib.Core.Path.{_≡_};
-ghost use Prim.Native.Nat.{_+_, _^_, _<_};
 ghost use Rattle.theory.specs.Table.{check, refused};
-ghost use Rattle.table.specs.Tally.{passed, clauseAfter, unknownAt, earlier, counted, tallyOf, verdict};
+ghost use Rattle.table.specs.Progress.{begin, oneMore, clauseNext, unknownNext, earlier, next, after, verdict};
 use literal::ClauseNumber;
 use literal::Literal;
 use receipt::Checked;
 use receipt::Fault;
 use receipt::Refusal;
 
-// The first entry whose size is above n: its index, and how many clauses were closed before it.
+// The first entry whose size is above n: its index, and the number of its clause.
 pub enum Unknown {
     Nowhere,
-    At(usize, usize),
+    At(usize, ClauseNumber),
 }
 
-// What the pass keeps: closed clauses, literals, whether the last element was not 0, and the first unknown variable.
-pub struct Tally {
-    pub clauses: usize,
-    pub literals: usize,
+// What the check keeps of the elements so far: of how many variables, closed clauses and literals, whether the last element was not 0, and the first unknown variable.
+pub struct Progress {
+    pub variables: usize,
+    pub clauses: u16,
+    pub literals: u16,
     pub unclosed: bool,
     pub unknown: Unknown,
 }
 
-// The number of the clause after so many closed ones. Past the limit a table is refused for its clauses, so there one number does for all.
-pub fn clause_after(closed: usize) -> ClauseNumber
-    ensures { λ r. ⌜ r ≡ clauseAfter closed ⌝ }
-{
-    if closed < Literal::MAX_CLAUSES {
-        ClauseNumber(closed as u16 + 1)
-    } else {
-        ClauseNumber(Literal::MAX_CLAUSES as u16 + 1)
-    }
-}
+// One past each limit. A table that has so many is refused, whatever follows, so no count goes further, and no list is too long.
+const ENOUGH_CLAUSES: u16 = Literal::MAX_CLAUSES as u16 + 1;
 
-// Whether the element at index i, of this size and after so many closed clauses, is of an unknown variable. The size of -32768 is 32768, so it is above every n
-// that is allowed.
-fn unknown_at(i: usize, closed: usize, n: usize, size: u16) -> Unknown
-    ensures { λ r. ⌜ r ≡ unknownAt i closed n size ⌝ }
+const ENOUGH_LITERALS: u16 = Literal::MAX_LITERALS as u16 + 1;
+
+fn one_more(count: u16, enough: u16) -> u16
+    ensures { λ r. ⌜ r ≡ oneMore count enough ⌝ }
 {
-    if n < size as usize {
-        Unknown::At(i, closed)
-    } else {
-        Unknown::Nowhere
-    }
+    if count < enough { count + 1 } else { count }
 }
 
 // The first one found stays.
@@ -56,74 +44,105 @@ fn earlier(first: Unknown, second: Unknown) -> Unknown
     }
 }
 
-// One element more, by its size. The counts add up to the number of elements passed, which is the index of this one.
-fn counted(n: usize, tally: Tally, size: u16) -> Tally
-    requires { ⌜ passed tally + 1 < 2 ^ 64 ⌝ }
-    ensures { λ r. ⌜ r ≡ counted n tally size ⌝ }
-{
-    let clauses = tally.clauses;
-    let literals = tally.literals;
-    let found = tally.unknown;
-    let unknown = earlier(found, unknown_at(clauses + literals, clauses, n, size));
-    if size == 0 {
-        Tally {
-            clauses: clauses + 1,
-            literals,
-            unclosed: false,
-            unknown,
-        }
-    } else {
-        Tally {
-            clauses,
-            literals: literals + 1,
-            unclosed: true,
-            unknown,
-        }
-    }
-}
-
-// The tally of a whole table.
-pub fn tally_of(n: usize, table: &[i16]) -> Tally
-    ensures { λ r. ⌜ r ≡ tallyOf n (now (table .entry)) ⌝ }
-{
-    let mut tally = Tally {
-        clauses: 0,
-        literals: 0,
-        unclosed: false,
-        unknown: Unknown::Nowhere,
-    };
-    for i in 0..table.len() {
-        tally = counted(n, tally, literal::size_at(table, i));
-    }
-    tally
-}
-
 pub fn refused(fault: Fault, place: usize) -> Checked
     ensures { λ r. ⌜ r ≡ refused fault place ⌝ }
 {
     Checked::Refused(Refusal::new(fault, place))
 }
 
-// "Tables: 1, 2, 3, 4, 5": each refusal is over the whole table before the next.
-pub fn verdict(n: usize, tally: Tally) -> Checked
-    ensures { λ r. ⌜ r ≡ verdict n tally ⌝ }
-{
-    if n > Literal::MAX_VARIABLES {
-        return refused(Fault::TooManyVariables, 0);
+impl Progress {
+    // The state at the beginning, for a filing of n placements.
+    pub fn begin(n: usize) -> Progress
+        ensures { λ r. ⌜ r ≡ begin n ⌝ }
+    {
+        Progress {
+            variables: n,
+            clauses: 0,
+            literals: 0,
+            unclosed: false,
+            unknown: Unknown::Nowhere,
+        }
     }
-    if tally.clauses > Literal::MAX_CLAUSES {
-        return refused(Fault::TooManyClauses, 0);
+
+    // The number of the clause that the next element stands in.
+    pub fn clause_next(self) -> ClauseNumber
+        ensures { λ r. ⌜ r ≡ clauseNext self ⌝ }
+    {
+        ClauseNumber(one_more(self.clauses, ENOUGH_CLAUSES))
     }
-    if tally.literals > Literal::MAX_LITERALS {
-        return refused(Fault::TooManyLiterals, 0);
+
+    // Whether the next element, of this size, is of an unknown variable; the counts add up to its index. The size of -32768 is 32768, so it is above every n that is
+    // allowed.
+    fn unknown_next(self, size: u16) -> Unknown
+        ensures { λ r. ⌜ r ≡ unknownNext self size ⌝ }
+    {
+        if self.variables < size as usize {
+            Unknown::At(
+                self.clauses as usize + self.literals as usize,
+                self.clause_next(),
+            )
+        } else {
+            Unknown::Nowhere
+        }
     }
-    if tally.unclosed {
-        return refused(Fault::OpenClause, 0);
+
+    // One element more, by its size.
+    fn next(self, size: u16) -> Progress
+        ensures { λ r. ⌜ r ≡ next self size ⌝ }
+    {
+        let found = self.unknown;
+        let unknown = earlier(found, self.unknown_next(size));
+        if size == 0 {
+            Progress {
+                variables: self.variables,
+                clauses: one_more(self.clauses, ENOUGH_CLAUSES),
+                literals: self.literals,
+                unclosed: false,
+                unknown,
+            }
+        } else {
+            Progress {
+                variables: self.variables,
+                clauses: self.clauses,
+                literals: one_more(self.literals, ENOUGH_LITERALS),
+                unclosed: true,
+                unknown,
+            }
+        }
     }
-    let unknown = tally.unknown;
-    match unknown {
-        Unknown::Nowhere => Checked::Passed,
-        Unknown::At(place, closed) => refused(Fault::UnknownVariable(clause_after(closed)), place),
+
+    // The state after one more part.
+    pub fn after(self, part: &[i16]) -> Progress
+        ensures { λ r. ⌜ r ≡ after self (now (part .entry)) ⌝ }
+    {
+        let mut progress = self;
+        for i in 0..part.len() {
+            progress = progress.next(literal::size_at(part, i));
+        }
+        progress
+    }
+
+    // "Tables: 1, 2, 3, 4, 5": each refusal is over the whole table before the next.
+    pub fn verdict(self) -> Checked
+        ensures { λ r. ⌜ r ≡ verdict self ⌝ }
+    {
+        if self.variables > Literal::MAX_VARIABLES {
+            return refused(Fault::TooManyVariables, 0);
+        }
+        if self.clauses as usize > Literal::MAX_CLAUSES {
+            return refused(Fault::TooManyClauses, 0);
+        }
+        if self.literals as usize > Literal::MAX_LITERALS {
+            return refused(Fault::TooManyLiterals, 0);
+        }
+        if self.unclosed {
+            return refused(Fault::OpenClause, 0);
+        }
+        let unknown = self.unknown;
+        match unknown {
+            Unknown::Nowhere => Checked::Passed,
+            Unknown::At(place, clause) => refused(Fault::UnknownVariable(clause), place),
+        }
     }
 }
 
@@ -131,5 +150,5 @@ pub fn verdict(n: usize, tally: Tally) -> Checked
 pub fn check_table(table: &[i16], n: usize) -> Checked
     ensures { λ r. ⌜ r ≡ check n (now (table .entry)) ⌝ }
 {
-    verdict(n, tally_of(n, table))
+    Progress::begin(n).after(table).verdict()
 }

@@ -1,21 +1,20 @@
--- `check_added` meets its contract: the tally of the used part is the table's, and the rest are the checks of the definition in its order.
+-- `check_added` meets its contract: the state after the used part has its counts where the part passes, and the rest are the checks of the definition in its order.
 use Prim.Native.Nat.{_+_, _<_, _^_}
 use mathlib.Core.Path.{_≡_, sym, ap, _∙_}
 use borrow.Author.Needs.{needs}
 use borrow.Author.Tests.{lt-ltb, le-ltb}
 use native.Mathlib.Omega.{arith}
-use lib.ListN.{length, take, length-take}
+use lib.ListN.{length, take}
 use lib.Seq.{length-take-le}
-use Rattle.literal.specs.declared.ClauseNumber.{ClauseNumber}
 use Rattle.literal.specs.Literal.{maxClauses, maxLiterals}
 use Rattle.receipt.specs.declared.Fault.the-variants.{TooManyClauses, TooManyLiterals, TableShort}
-use Rattle.theory.specs.Table.{zeros, nonzeros, check}
+use Rattle.theory.specs.Table.{check}
 use Rattle.theory.specs.Calls.{unknownIn}
-use Rattle.table.specs.declared.Tally.{Tally}
-use Rattle.table.specs.Tally.{verdict, passed, clauseAfter}
-use Rattle.table.proofs.Tallies.{tally-clauses, tally-literals, tally-passed, verdict-check}
+use Rattle.table.specs.declared.Progress.{Progress}
+use Rattle.table.specs.Progress.{begin, clauseNext, after, verdict}
+use Rattle.table.proofs.Passes.{verdict-check}
 use Rattle.add.specs.Add.{atMost, firstRefusal, checkAdded}
-use Rattle.add.proofs.Refusals.{list-numbered}
+use Rattle.add.proofs.Refusals.{counts-exact}
 use Rattle.add.proofs.check_added.Statement.{statement}
 use Rattle.add.proofs.check_added.Tie as tie
 
@@ -23,45 +22,21 @@ returns : tie.Need-returns
 unfolding checkAdded
 returns c = c .refused .ensures ∙ rw (lt-ltb _ _ (c .before .if1 .taken))
 
--- no sum of the used part's counts is too large: they add up to its length
-few : (c : tie.After-tally-of) → c .tally-of .result .clauses + c .tally-of .result .literals < 2 ^ 62
-few c =
-    let a = c .before .before .before .args in
-    let t = take (a .used) (a .buffer .now) in
-    omega (arith, ap passed (c .tally-of .ensures), tally-passed (a .n) t, length-take (a .used) (a .buffer .now))
+-- the new length is no too large number
+fits : (c : tie.After-unknown-in) →
+    let a = c .before .before .before .before .before .before .before .before .before .before .before .args in a .used + length (a .group .now) + 1 < 2 ^ 64
+fits c = small (c .before .before .before .before .before .before .before .before .before .before)
+  where
+    small : (c : tie.Else1) → let a = c .before .args in a .used + length (a .group .now) + 1 < 2 ^ 64
+    small c = search needs
+
+-- the state after the used part, and its verdict
+gone : (c : tie.After-after) → let a = c .before .before .before .before .args in c .after .result ≡ after (begin (a .n)) (take (a .used) (a .buffer .now))
+gone c = rw (c .before .before .begin .ensures) at (c .after .ensures)
 
 table-check : (c : tie.After-verdict) →
-    let a = c .before .before .before .before .args in c .verdict .result ≡ check (a .n) (take (a .used) (a .buffer .now))
-table-check c =
-    let a = c .before .before .before .before .args in
-    c .verdict .ensures ∙ ap (verdict (a .n)) (c .before .tally-of .ensures) ∙ verdict-check (a .n) _
-
-clauses-check : (c : tie.After-at-most) →
-    let a = c .before .before .before .before .before .before .args in
-    c .at-most .result ≡ atMost (zeros (take (a .used) (a .buffer .now)) + 1) maxClauses TooManyClauses
-clauses-check c =
-    let h = c .before .before .before in
-    let a = h .before .before .before .args in
-    c .at-most .ensures ∙ rw (h .tally-of .ensures, tally-clauses (a .n) (take (a .used) (a .buffer .now)))
-
-literals-check : (c : tie.After-at-most2) →
-    let a = c .before .before .before .before .before .before .before .before .args in
-    c .at-most2 .result ≡ atMost (nonzeros (take (a .used) (a .buffer .now)) + length (a .group .now)) maxLiterals TooManyLiterals
-literals-check c =
-    let h = c .before .before .before .before .before in
-    let a = h .before .before .before .args in
-    c .at-most2 .ensures ∙ rw (h .tally-of .ensures, tally-literals (a .n) (take (a .used) (a .buffer .now)))
-
--- the number that the group would have
-list-check : (c : tie.After-unknown-in) →
-    let a = c .before .before .before .before .before .before .before .before .before .before .args in
-    c .unknown-in .result ≡ unknownIn (a .used) (clauseAfter (zeros (take (a .used) (a .buffer .now))) .0) (a .n) (a .group .now)
-list-check c =
-    let h = c .before .before .before .before .before .before .before in
-    let a = h .before .before .before .args in
-    let z : c .before .clause-after .result ≡ clauseAfter (zeros (take (a .used) (a .buffer .now))) =
-    c .before .clause-after .ensures ∙ ap clauseAfter (ap (λ (s : Tally). s .clauses) (h .tally-of .ensures) ∙ tally-clauses (a .n) (take (a .used) (a .buffer .now))) in
-    c .unknown-in .ensures ∙ ap (λ (k : ClauseNumber). unknownIn (a .used) (k .0) (a .n) (a .group .now)) z
+    let a = c .before .before .before .before .before .args in c .verdict .result ≡ check (a .n) (take (a .used) (a .buffer .now))
+table-check c = c .verdict .ensures ∙ ap verdict (gone (c .before)) ∙ verdict-check _ _
 
 returns-2 : tie.Need-returns-2
 unfolding checkAdded
@@ -71,10 +46,11 @@ returns-2 c =
     let limits = list .before in
     let room = limits .before in
     let unknown = room .before in
-    let literals = unknown .before .before in
+    let clause = unknown .before in
+    let literals = clause .before in
     let clauses = literals .before .before in
     let table = clauses .before .before in
-    let h = table .before .before .before in
+    let h = table .before .before .before .before in
     let a = h .before .args in
     let t = take (a .used) (a .buffer .now) in
     let g = a .group .now in
@@ -84,12 +60,14 @@ returns-2 c =
       list .first-refusal2 .ensures,
       limits .first-refusal .ensures,
       room .at-most3 .ensures,
-      list-check unknown,
-      literals-check literals,
-      clauses-check clauses,
+      unknown .unknown-in .ensures,
+      clause .clause-next .ensures,
+      literals .at-most2 .ensures,
+      clauses .at-most .ensures,
       table-check table,
+      gone (table .before),
       le-ltb _ _ (h .if1 .left),
-    ) (ap (firstRefusal (check (a .n) t)) (list-numbered (a .used) (zeros t) (a .n) g (atMost (nonzeros t + length g) maxLiterals TooManyLiterals) (atMost (a .used + length g + 1) (length (a .buffer .now)) TableShort)))
+    ) (counts-exact (a .used) (a .n) g t (atMost (a .used + length g + 1) (length (a .buffer .now)) TableShort))
 
 pub check-added-spec : {M : Type 1} → statement M
 check-added-spec =
@@ -97,17 +75,20 @@ check-added-spec =
     (tie.spec
     (λ c κs. search needs)
     returns
-    (λ c. sym (length-take-le _ _ (c .before .if1 .left)))
     (λ c κs. search needs)
-    (λ c κs. search needs)
-    (λ c. record { fits = omega (arith, few (c .before .before)) })
-    (λ c κs. search needs)
-    (λ c. record { fits = omega (arith, few (c .before .before .before .before)) })
-    (λ c κs. search needs)
+    (λ c. sym (length-take-le _ _ (c .before .before .if1 .left)))
     (λ c κs. search needs)
     (λ c κs. search needs)
     (λ c. search needs)
     (λ c. search needs)
+    (λ c κs. search needs)
+    (λ c. search needs)
+    (λ c. search needs)
+    (λ c κs. search needs)
+    (λ c κs. search needs)
+    (λ c κs. search needs)
+    (λ c. record { fits = omega (arith, fits c) })
+    (λ c. record { fits = omega (arith, fits c) })
     (λ c κs. search needs)
     (λ c κs. search needs)
     (λ c κs. search needs)

@@ -1,8 +1,8 @@
--- `check_table` meets its contract: the verdict on the table's tally is the check of the table.
+-- `check_table` meets its contract: the verdict after the table is the check of the table.
 use mathlib.Core.Path.{ap, _∙_}
 use borrow.Author.Needs.{needs}
-use Rattle.table.specs.Tally.{verdict}
-use Rattle.table.proofs.Tallies.{verdict-check}
+use Rattle.table.specs.Progress.{after, verdict}
+use Rattle.table.proofs.Passes.{verdict-check}
 use Rattle.table.proofs.check_table.Statement.{statement}
 use Rattle.table.proofs.check_table.Tie as tie
 
@@ -12,6 +12,7 @@ check-table-spec =
     (tie.spec
     (λ c κs. search needs)
     (λ c κs. search needs)
+    (λ c κs. search needs)
     (λ c.
-    let a = c .before .before .args in
-    c .verdict .ensures ∙ ap (verdict (a .n)) (c .before .tally-of .ensures) ∙ verdict-check (a .n) (a .table .now)))
+    let a = c .before .before .before .args in
+    rw (c .verdict .ensures, c .before .after .ensures, c .before .before .begin .ensures) (verdict-check (a .n) (a .table .now))))

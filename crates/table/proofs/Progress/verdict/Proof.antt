@@ -1,13 +1,13 @@
--- `verdict` meets its contract: each return has the tests of the ones before it behind it.
+-- `Progress::verdict` meets its contract: each return has the tests of the ones before it behind it.
 use mathlib.Core.Path.{_≡_, sym, ap, _∙_}
 use mathlib.Core.Bool.{cond}
 use borrow.Author.Needs.{needs}
 use borrow.Author.Tests.{lt-ltb, le-ltb}
 use Rattle.receipt.specs.declared.Fault.the-variants.{OpenClause}
 use Rattle.theory.specs.Table.{refused}
-use Rattle.table.specs.Tally.{verdict, refusedAt}
-use Rattle.table.proofs.verdict.Statement.{statement}
-use Rattle.table.proofs.verdict.Tie as tie
+use Rattle.table.specs.Progress.{verdict, refusedAt}
+use Rattle.table.proofs.Progress.verdict.Statement.{statement}
+use Rattle.table.proofs.Progress.verdict.Tie as tie
 
 returns : tie.Need-returns
 unfolding verdict
@@ -25,8 +25,8 @@ returns-3 c =
 
 -- past the limits
 within : (c : tie.Else3) →
-    let a = c .before .before .before .before .before .args in
-    verdict (a .n) (a .tally) ≡ cond (a .tally .unclosed) (refused OpenClause 0) (refusedAt (a .tally .unknown))
+    let a = c .before .before .before .before .before .before .args in
+    verdict (a .self) ≡ cond (a .self .unclosed) (refused OpenClause 0) (refusedAt (a .self .unknown))
 unfolding verdict
 within c =
     let h = c .before .before in
@@ -37,7 +37,7 @@ returns-4 c = c .refused4 .ensures ∙ sym (within (c .before .before) ∙ rw (c
 
 -- and past the last element
 ended : (c : tie.Else4) →
-    let a = c .before .before .before .before .before .before .args in verdict (a .n) (a .tally) ≡ refusedAt (a .tally .unknown)
+    let a = c .before .before .before .before .before .before .before .args in verdict (a .self) ≡ refusedAt (a .self .unknown)
 ended c = within (c .before) ∙ rw (c .if4 .left)
 
 returns-5 : tie.Need-returns-5
@@ -45,8 +45,8 @@ returns-5 c = sym (ended (c .before .before) ∙ ap refusedAt (c .enum-told .giv
 
 returns-6 : tie.Need-returns-6
 returns-6 c =
-    let h = c .before .before .before .before .before in
-    c .refused5 .ensures ∙ rw (c .before .clause-after .ensures) (sym (ended h ∙ ap refusedAt (c .before .before .before .unknown .given .1)))
+    let h = c .before .before .before .before in
+    c .refused5 .ensures ∙ sym (ended h ∙ ap refusedAt (c .before .before .unknown .given .1))
 
 pub verdict-spec : {M : Type 1} → statement M
 verdict-spec =
@@ -54,15 +54,16 @@ verdict-spec =
     (tie.spec
     (λ c κs. search needs)
     returns
+    (λ c. search needs)
     (λ c κs. search needs)
     returns-2
+    (λ c. search needs)
     (λ c κs. search needs)
     returns-3
     (λ c κs. search needs)
     returns-4
     (λ c. search needs)
     (λ c. search needs)
-    (λ c κs. search needs)
     (λ c κs. search needs)
     returns-5
     returns-6)
