@@ -2,10 +2,11 @@
 # The benchmark, in one command. Ratios in one run mean something, absolute times don't, and no time is a test.
 #
 #     bench/run.sh [OPTION...] [STRIP...]   compares random filings, then measures the filings of bench/filings.py, or the strips given, and prints the table;
-#                                           without strips it also writes docs/speed.svg
+#                                           without strips it also writes docs/speed.svg, and prints the line of --keystroke
 #     bench/run.sh --growth [OPTION...]     how cost grows with placements, groups and entries
 #     bench/run.sh --stack                  the least stack, in KB, on which the layout program walks its deepest tree
 #     bench/run.sh --compare [WORD...]      only compares, WORDs as bench/compare.cpp says
+#     bench/run.sh --keystroke              what one element more costs beside a whole check of a table at the limits, in one line; it builds only what this needs
 #
 # OPTIONs (bench/table.py): --allowance N, --seconds S for the library on one filing, --limit S for a whole run, --reference PROGRAM (or REFERENCE in the environment).
 set -eu
@@ -19,11 +20,14 @@ need() { # command, Debian package
         { echo "bench/run.sh: '$1' is missing and could not be installed; install the Debian package '$2'" >&2; exit 1; }
 }
 
+proved() { # words for rt
+    rt "$@" >target/bench/build.log 2>&1 || { cat target/bench/build.log; exit 1; }
+}
+
 build() {
     need g++ g++
-    need python3 python3
-    rt check layout >target/bench/build.log 2>&1 || { cat target/bench/build.log; exit 1; }
-    rt staticlib window >target/bench/build.log 2>&1 || { cat target/bench/build.log; exit 1; }
+    proved check layout
+    proved staticlib window
     local flags=(-std=c++17 -O3 -march=native -Wall -Wextra -Wno-psabi -Iinclude -Ibench) program
     g++ "${flags[@]}" bench/own.cpp -o target/bench/own
     for program in measure compare; do
@@ -31,15 +35,21 @@ build() {
     done
 }
 
-mkdir -p target/bench
-build
+keystroke() {
+    proved check keystrokes
+    python3 bench/keystroke.py
+}
+
 mode=table
 case ${1-} in
---growth | --stack | --compare)
+--growth | --stack | --compare | --keystroke)
     mode=${1#--}
     shift
     ;;
 esac
+mkdir -p target/bench
+need python3 python3
+[ "$mode" = keystroke ] || build
 
 # words that name files are the caller's
 words=()
@@ -66,6 +76,7 @@ done
 case $mode in
 compare) target/bench/compare --most-splits "${MOST_SPLITS:-2000}" "${words[@]}" target/bin/layout ;;
 stack) bench/stack.sh ;;
+keystroke) keystroke ;;
 growth)
     python3 bench/filings.py --growth target/bench/growth >target/bench/made
     mapfile -t made <target/bench/made
@@ -82,5 +93,6 @@ table)
         words+=(--picture docs/speed.svg "${made[@]}")
     fi
     python3 bench/table.py "${words[@]}"
+    [ "$strips" -gt 0 ] || keystroke
     ;;
 esac

@@ -5,7 +5,6 @@ use mathlib.Core.List.{List, [], _∷_, _++_, append-assoc}
 use mathlib.Core.Option.{Option, some}
 use Prim.Native.Nat.{ℕ, _+_, _<_, _≤_, min}
 use native.Mathlib.Decide.{decLt}
-use native.Mathlib.Nat.{zero-add}
 use native.Mathlib.Numerals.{add-one}
 use native.Mathlib.Omega.{arith}
 use borrow.Author.Tests.{lt-ltb, le-ltb}
@@ -24,7 +23,7 @@ use Rattle.theory.proofs.Tables.{zeros-append, nonzeros-append, length-elements
 use Rattle.table.specs.declared.Unknown.{Unknown}
 use Rattle.table.specs.declared.Unknown.the-variants.{Nowhere, At}
 use Rattle.table.specs.declared.Progress.{Progress}
-use Rattle.table.specs.Progress.{begin, enoughClauses, enoughLiterals, oneMore, countIf, placeNext, clauseNext, earlier, next, after, refusedAt, verdict}
+use Rattle.table.specs.Progress.{begin, enoughClauses, enoughLiterals, countIf, placeNext, clauseNext, earlier, next, after, refusedAt, verdict}
 
 -- a part from index i on: its element there is the next one, and at the end there is none
 pub after-next : (s : Progress) (t : List ℤ) (i : ℕ) → i < length t → after (next s (natAbs (getD t i (pos 0)))) (drop (i + 1) t) ≡ after s (drop i t)

@@ -34,13 +34,13 @@ fn one_more(count: u16, enough: u16) -> u16
     if count < enough { count + 1 } else { count }
 }
 
-// The first one found stays.
+// The first one found stays. It is made anew from its parts: a copy of it would go through memory at each element.
 fn earlier(first: Unknown, second: Unknown) -> Unknown
     ensures { λ r. ⌜ r ≡ earlier first second ⌝ }
 {
     match first {
         Unknown::Nowhere => second,
-        Unknown::At(_, _) => first,
+        Unknown::At(place, clause) => Unknown::At(place, clause),
     }
 }
 
@@ -77,13 +77,12 @@ impl Progress {
         ensures { λ r. ⌜ r ≡ unknownNext self size ⌝ }
     {
         if self.variables < size as usize {
-            Unknown::At(
+            return Unknown::At(
                 self.clauses as usize + self.literals as usize,
                 self.clause_next(),
-            )
-        } else {
-            Unknown::Nowhere
+            );
         }
+        Unknown::Nowhere
     }
 
     // One element more, by its size.

@@ -1,6 +1,7 @@
 // Every operation beside something that shares no definition with it: a solver that tries all choices, slow checks of tables, a slow reader, a plain writer. For each operation the
 // program prints how many answers of each number there were, and how many were not as expected.
 mod add_trial;
+mod check_trial;
 mod index_trial;
 mod read_trial;
 mod save_trial;
@@ -14,6 +15,7 @@ use trial::tally::Tally;
 const FILINGS: usize = 5000;
 
 enum Operation {
+    Check,
     Search,
     Settle,
     Add,
@@ -29,6 +31,7 @@ fn tried(operation: Operation, number: usize, tally: Tally) -> Tally {
     let formula = trial::formula::formula_of(number, &mut table, &mut seed);
     let filing = trial::lists::part(&table, 0, formula.used);
     match operation {
+        Operation::Check => check_trial::tried(filing, formula, &mut seed, tally),
         Operation::Search => search_trial::tried(filing, formula, &mut seed, tally),
         Operation::Settle => settle_trial::tried(filing, formula, &mut seed, tally),
         Operation::Add => add_trial::tried(filing, formula, &mut seed, tally),
@@ -45,6 +48,16 @@ fn tally_of(operation: Operation) -> Tally {
         tally = tried(operation, number, tally);
     }
     tally
+}
+
+// Every table is checked three times: whole, in two parts and in several.
+fn check_all() -> usize {
+    show::text(b"check\n");
+    let tally = tally_of(Operation::Check);
+    tally.show(b"tables passed", 18);
+    tally.show_refused(&[1u8, 2, 3, 4, 5]);
+    tally.show_disagreements();
+    tally.disagreements
 }
 
 fn search_all() -> usize {
@@ -124,7 +137,8 @@ fn main() {
     show::text(b"filings");
     show::number(FILINGS as u64);
     show::text(b"\n");
-    let search = search_all();
+    let check = check_all();
+    let search = wrapping_add_usize(check, search_all());
     let settle = wrapping_add_usize(search, settle_all());
     let add = wrapping_add_usize(settle, add_all());
     let index = wrapping_add_usize(add, index_all());

@@ -6,14 +6,11 @@ use borrow.Author.Tests.{lt-ltb, le-ltb}
 use native.Mathlib.Omega.{arith}
 use lib.ListN.{length, take}
 use lib.Seq.{length-take-le}
-use Rattle.literal.specs.Literal.{maxClauses, maxLiterals}
-use Rattle.receipt.specs.declared.Fault.the-variants.{TooManyClauses, TooManyLiterals, TableShort}
+use Rattle.receipt.specs.declared.Fault.the-variants.{TableShort}
 use Rattle.theory.specs.Table.{check}
-use Rattle.theory.specs.Calls.{unknownIn}
-use Rattle.table.specs.declared.Progress.{Progress}
-use Rattle.table.specs.Progress.{begin, clauseNext, after, verdict}
+use Rattle.table.specs.Progress.{begin, after, verdict}
 use Rattle.table.proofs.Passes.{verdict-check}
-use Rattle.add.specs.Add.{atMost, firstRefusal, checkAdded}
+use Rattle.add.specs.Add.{atMost, checkAdded}
 use Rattle.add.proofs.Refusals.{counts-exact}
 use Rattle.add.proofs.check_added.Statement.{statement}
 use Rattle.add.proofs.check_added.Tie as tie

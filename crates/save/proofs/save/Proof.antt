@@ -46,7 +46,7 @@ saved-length-requires : tie.Need-saved-length-requires
 saved-length-requires c κs =
     let e = c .before .before .before .before in
     let w = accepted-sizes _ _ (accepted e) in
-    (omega (arith, clauses-counted e, w .clauses), omega (arith, literals-counted e, w .literals))
+    (omega (arith, clauses-counted e, w .clauses), omega (arith, clauses-counted e, literals-counted e, w .clauses, w .literals))
 
 -- where the strip's length is known, what was known of the placements, and before that of the table
 abbrev named : tie.After-saved-length → tie.Else1

@@ -1,7 +1,5 @@
 -- `check_table` meets its contract: the verdict after the table is the check of the table.
-use mathlib.Core.Path.{ap, _∙_}
 use borrow.Author.Needs.{needs}
-use Rattle.table.specs.Progress.{after, verdict}
 use Rattle.table.proofs.Passes.{verdict-check}
 use Rattle.table.proofs.check_table.Statement.{statement}
 use Rattle.table.proofs.check_table.Tie as tie
