@@ -3,18 +3,14 @@
 use literal::Literal;
 use receipt::Checked;
 use table::Progress;
+use trial::limits::fill;
 use trial::lists::part;
-use trial::lists::put_entry;
-use trial::lists::signed;
 
 const N: usize = Literal::MAX_VARIABLES;
 
 const END: usize = Literal::MAX_TABLE;
 
 const LAST: usize = END - 1;
-
-// The elements of a group: four entries and a 0.
-const GROUP: usize = 5;
 
 const WHOLE_CHECKS: usize = 50000;
 
@@ -23,20 +19,6 @@ const KEYSTROKES: usize = 40000000;
 enum Work {
     WholeCheck,
     Keystroke,
-}
-
-// Both signs and every placement.
-fn element(i: usize) -> i16 {
-    if i % GROUP == GROUP - 1 {
-        return 0;
-    }
-    signed(i % N + 1, i % 2 == 0)
-}
-
-fn fill(table: &mut [i16]) {
-    for i in 0..table.len() {
-        put_entry(table, i, element(i));
-    }
 }
 
 // What a round is given depends on the answer before, so that none can be left out.

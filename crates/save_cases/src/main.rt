@@ -2,15 +2,12 @@
 // bytes, and whether reading brings the table back.
 use literal::Literal;
 use receipt::Saving;
+use trial::limits::fill;
 use trial::lists::bytes_from;
 use trial::lists::first_bytes;
 use trial::lists::part;
 use trial::lists::put_entry;
 use trial::lists::same_entries;
-use trial::lists::signed;
-
-// The elements of a group of the table at the limits: four entries and a 0.
-const GROUP: usize = 5;
 
 const N: usize = Literal::MAX_VARIABLES;
 
@@ -93,20 +90,6 @@ fn rooms() {
     try_one(&group, 2, &mut [9u8; 11]);
     try_one(&group, 2, &mut [9u8; 12]);
     try_one(&group, 2, &mut [9u8; 13]);
-}
-
-// An element of the table at the limits, with both signs and every placement.
-fn element(i: usize) -> i16 {
-    if i % GROUP == GROUP - 1 {
-        return 0;
-    }
-    signed(i % Literal::MAX_VARIABLES + 1, i % 2 == 0)
-}
-
-fn fill(table: &mut [i16]) {
-    for i in 0..table.len() {
-        put_entry(table, i, element(i));
-    }
 }
 
 fn read_back(strip: &[u8], table: &[i16; Literal::MAX_TABLE]) {

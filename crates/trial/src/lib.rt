@@ -1,10 +1,11 @@
-// What the trials set beside the operations, and nothing here calls one: random filings, a solver that tries every choice, slow checks of tables, a slow reader, strips
-// whole and damaged, and what each operation must answer by these. Little is ensured; the proofs say that each function is safe and ends.
+// What the trials set beside the operations, and nothing here calls one: random filings, a table at the limits, a solver that tries every choice, slow checks of tables,
+// a slow reader, strips whole and damaged, and what each operation must answer by these. Little is ensured; the proofs say that each function is safe and ends.
 pub mod brute;
 pub mod completed;
 pub mod damage;
 pub mod formula;
 pub mod indexed;
+pub mod limits;
 pub mod lists;
 pub mod random;
 pub mod readings;

@@ -3,8 +3,8 @@ use Prim.Native.Nat.{_-_}
 use mathlib.Core.Path.{_≡_}
 use borrow.Author.Needs.{needs}
 use lib.ListN.{length}
-use Rattle.keystrokes.proofs.fill.Statement.{statement}
-use Rattle.keystrokes.proofs.fill.Tie as tie
+use Rattle.trial.proofs.limits.fill.Statement.{statement}
+use Rattle.trial.proofs.limits.fill.Tie as tie
 
 abbrev Inv-loop : tie.InvT-loop
 Inv-loop table₀ i₀ i-end table i = length table ≡ length table₀

@@ -1,0 +1,21 @@
+// A table at the limits: 512 groups of four entries, with both signs and every placement.
+use super::lists::put_entry;
+use super::lists::signed;
+use super::verdict::MAX_VARIABLES;
+
+// The elements of a group: four entries and a 0.
+const GROUP: usize = 5;
+
+fn element(i: usize) -> i16 {
+    if i % GROUP == GROUP - 1 {
+        return 0;
+    }
+    signed(i % MAX_VARIABLES + 1, i % 2 == 0)
+}
+
+// The first elements of it, as many as the list has.
+pub fn fill(table: &mut [i16]) {
+    for i in 0..table.len() {
+        put_entry(table, i, element(i));
+    }
+}
