@@ -25,7 +25,7 @@ use Rattle.receipt.specs.declared.Checked.the-variants.{Passed, Refused}
 use Rattle.theory.specs.Table.{zeros, nonzeros, refused, check}
 use Rattle.theory.specs.Calls.{AddCall, addRefused, isWrong, listUnknown, unknownIn, added, addKnown, addChecked, addCall}
 use Rattle.theory.proofs.Tables.{past, known-variable, accepted-sizes, accepted-exactly}
-use Rattle.table.specs.Progress.{begin, enoughClauses, clauseNext, after}
+use Rattle.table.specs.Pass.{begin, enoughClauses, clauseNext, after}
 use Rattle.table.proofs.Passes.{clauses-exact, literals-exact}
 use Rattle.add.specs.Addable.{Addable}
 use Rattle.add.specs.Add.{known, firstRefusal, atMost, checkAdded, called}

@@ -9,7 +9,7 @@ use literal::Literal;
 use receipt::Adding;
 use receipt::Checked;
 use receipt::Fault;
-use table::Progress;
+use table::Pass;
 
 // Whether an element of the list, by its size, is an entry of a placement from 1 to n. A zero isn't.
 fn known(n: usize, size: u16) -> bool
@@ -61,19 +61,19 @@ fn check_added(buffer: &[i16], used: usize, n: usize, group: &[i16]) -> Checked
     }
     // No sum below wraps: a slice of 16-bit numbers has fewer than 2^62 elements.
     let count = group.len();
-    let progress = Progress::begin(n).after(&buffer[..used]);
-    let used_part = progress.verdict();
+    let pass = Pass::begin(n).after(&buffer[..used]);
+    let used_part = pass.verdict();
     let clauses = at_most(
-        progress.clauses as usize + 1,
+        pass.clauses as usize + 1,
         Literal::MAX_CLAUSES,
         Fault::TooManyClauses,
     );
     let literals = at_most(
-        progress.literals as usize + count,
+        pass.literals as usize + count,
         Literal::MAX_LITERALS,
         Fault::TooManyLiterals,
     );
-    let unknown = unknown_in(used, progress.clause_next(), n, group);
+    let unknown = unknown_in(used, pass.clause_next(), n, group);
     let room = at_most(used + count + 1, buffer.len(), Fault::TableShort);
     let limits = first_refusal(clauses, literals);
     let list = first_refusal(unknown, room);

@@ -4,7 +4,7 @@
 use literal::Literal;
 use receipt::Receipt;
 use std::num::wrapping_add_usize;
-use table::Progress;
+use table::Pass;
 use trial::lists::at_most;
 use trial::lists::more;
 use trial::lists::part;
@@ -46,20 +46,20 @@ struct Tries {
 }
 
 fn in_two(table: &[i16], n: usize, cut: usize) -> Receipt {
-    let first = Progress::begin(n).after(part(table, 0, cut));
+    let first = Pass::begin(n).after(part(table, 0, cut));
     let second = first.after(part(table, cut, table.len()));
     second.verdict().receipt()
 }
 
 fn in_three(table: &[i16], n: usize, cut: usize, next: usize) -> Receipt {
-    let first = Progress::begin(n).after(part(table, 0, cut));
+    let first = Pass::begin(n).after(part(table, 0, cut));
     let second = first.after(part(table, cut, next));
     let third = second.after(part(table, next, table.len()));
     third.verdict().receipt()
 }
 
 // At every index that begins a part: the state after this part, and after an empty one where they are spaced.
-fn after_part(before: Progress, table: &[i16], from: usize, size: usize, spaced: bool) -> Progress {
+fn after_part(before: Pass, table: &[i16], from: usize, size: usize, spaced: bool) -> Pass {
     if round(from, size) != 0 {
         return before;
     }
@@ -72,11 +72,11 @@ fn after_part(before: Progress, table: &[i16], from: usize, size: usize, spaced:
 }
 
 fn in_many(table: &[i16], n: usize, size: usize, spaced: bool) -> Receipt {
-    let mut progress = Progress::begin(n);
+    let mut pass = Pass::begin(n);
     for from in 0..table.len() {
-        progress = after_part(progress, table, from, size, spaced);
+        pass = after_part(pass, table, from, size, spaced);
     }
-    progress.verdict().receipt()
+    pass.verdict().receipt()
 }
 
 fn answer_of(table: &[i16], n: usize, way: Way) -> Receipt {
@@ -219,6 +219,7 @@ fn open() {
 
 // An unknown placement first, in a middle group, last before its 0, after empty groups, and of every size.
 fn unknown() {
+    check(&[1i16, 0, 3, 0], 2);
     check(&[3i16, 0, 1, 0, 2, 0], 2);
     check(&[1i16, 0, 2, -3, 0, 1, 0], 2);
     check(&[1i16, 0, 2, 0, 1, 3, 0], 2);
@@ -307,7 +308,8 @@ fn unknown_at_the_limits() {
     check(&last, 1);
 }
 
-// 513 groups: nothing else wrong; an unknown placement before them, among them, in the last of them and after them; an open group. Between these, 512 groups.
+// 513 groups: nothing else wrong; an unknown placement before them, among them and in the last of them; an open group after them, of a known placement and of an unknown
+// one. Between these, 512 groups.
 fn over_in_clauses() {
     let mut table = [0i16; CLAUSES + 1];
     check(part(&table, 0, CLAUSES), 0);
@@ -358,8 +360,8 @@ fn check_ends(table: &[i16], n: usize) {
     }
 }
 
-// 513 groups and 2,049 entries, or one less of either. The empty groups first and then an open one, of known placements, of unknown ones and with one of them unknown, which
-// is every fault at once with 257 placements; then the entries first, all unknown, and every group closed.
+// 513 groups and 2,049 entries, or one less of either. The empty groups first and then an open one, of known placements, of unknown ones and with one of them unknown,
+// which is every fault at once with 257 placements; then the entries first, all unknown, and every group closed.
 fn over_in_both() {
     let mut table = [1i16; BOTH];
     put_first(&mut table, CLAUSES, 0);
@@ -386,18 +388,18 @@ fn far_over() {
     check(&groups, 2);
 }
 
-fn repeated(before: Progress, again: &[i16], times: usize) -> Progress {
-    let mut progress = before;
+fn repeated(before: Pass, again: &[i16], times: usize) -> Pass {
+    let mut pass = before;
     for _i in 0..times {
-        progress = progress.after(again);
+        pass = pass.after(again);
     }
-    progress
+    pass
 }
 
 // One part, then another one so many times: the line has the receipt and the number of parts.
 fn check_repeated(first: &[i16], again: &[i16], n: usize) {
-    let progress = repeated(Progress::begin(n).after(first), again, OVER);
-    show::receipt(progress.verdict().receipt());
+    let pass = repeated(Pass::begin(n).after(first), again, OVER);
+    show::receipt(pass.verdict().receipt());
     show::text(b" | parts");
     show::number(OVER as u64 + 1);
     show::text(b"\n");

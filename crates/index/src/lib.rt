@@ -10,7 +10,7 @@ use receipt::Fault;
 use receipt::Head;
 use receipt::Indexing;
 use receipt::Refusal;
-use table::Progress;
+use table::Pass;
 
 // A group's head, and the index after the 0 that closes the group.
 pub struct Next {
@@ -59,21 +59,21 @@ fn refused(refusal: Refusal) -> Due
 fn due_of(table: &[i16], n: usize, room: usize) -> Due
     ensures { λ r. ⌜ r ≡ dueOf n (now (table .entry)) room ⌝ }
 {
-    let progress = Progress::begin(n).after(table);
-    let checked = progress.verdict();
+    let pass = Pass::begin(n).after(table);
+    let checked = pass.verdict();
     match checked {
         Checked::Refused(refusal) => {
             return refused(refusal);
         }
         Checked::Passed => {}
     }
-    let groups = progress.clauses as usize;
-    if room < groups {
+    let clauses = pass.clauses as usize;
+    if room < clauses {
         return refused(Refusal::new(Fault::HeadsShort, 0));
     }
     Due {
         answer: Indexing::Indexed,
-        heads: groups,
+        heads: clauses,
     }
 }
 

@@ -1,8 +1,8 @@
-// What one element more costs beside a whole check, for bench/run.sh: a table at the limits is checked whole, again and again (w on standard input), or by its last element
-// from the state after all the others (k).
+// What one element more costs beside a whole check, for bench/run.sh: a table at the limits is checked whole, again and again (w on standard input), or by its last
+// element from where the check stood before it (k).
 use literal::Literal;
 use receipt::Checked;
-use table::Progress;
+use table::Pass;
 use trial::limits::fill;
 use trial::lists::part;
 
@@ -33,13 +33,13 @@ fn whole_check(table: &[i16], answer: Checked) -> Checked {
     table::check_table(table, if_passed(answer, N))
 }
 
-fn keystroke(before: Progress, table: &[i16], answer: Checked) -> Checked {
+fn keystroke(before: Pass, table: &[i16], answer: Checked) -> Checked {
     before
         .after(part(table, if_passed(answer, LAST), END))
         .verdict()
 }
 
-fn round(work: Work, before: Progress, table: &[i16], answer: Checked) -> Checked {
+fn round(work: Work, before: Pass, table: &[i16], answer: Checked) -> Checked {
     match work {
         Work::WholeCheck => whole_check(table, answer),
         Work::Keystroke => keystroke(before, table, answer),
@@ -47,7 +47,7 @@ fn round(work: Work, before: Progress, table: &[i16], answer: Checked) -> Checke
 }
 
 fn rounds(work: Work, count: usize, table: &[i16]) -> Checked {
-    let before = Progress::begin(N).after(part(table, 0, LAST));
+    let before = Pass::begin(N).after(part(table, 0, LAST));
     let mut answer = Checked::Passed;
     for _ in 0..count {
         answer = round(work, before, table, answer);
@@ -63,7 +63,7 @@ fn repeat(work: Work, count: usize, table: &[i16]) {
     show::text(b"\n");
 }
 
-fn done(what: u8, table: &[i16]) {
+fn run(what: u8, table: &[i16]) {
     if what == b'w' {
         show::text(b"whole checks");
         repeat(Work::WholeCheck, WHOLE_CHECKS, table);
@@ -79,5 +79,5 @@ fn main() {
     fill(&mut table);
     let mut what = [0u8; 1];
     io::read_full(0, &mut what);
-    done(what[0], &table);
+    run(what[0], &table);
 }

@@ -117,7 +117,7 @@ impl Refusal {
 // Document 02's "18, done": the number of each of its operations that has no outcome of its own.
 const DONE: u32 = 18;
 
-// A table, looked at by every operation before anything else.
+// The table check, which the operations on a table begin with: no fault, or the first one.
 pub enum Checked {
     Passed,
     Refused(Refusal),

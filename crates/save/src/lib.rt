@@ -17,7 +17,7 @@ use receipt::Checked;
 use receipt::Fault;
 use receipt::Refusal;
 use receipt::Saving;
-use table::Progress;
+use table::Pass;
 use theory::Mark;
 
 // The bytes that a saved strip takes: for the placements and the end, for each group and for each entry.
@@ -125,15 +125,15 @@ fn saved_length(clauses: usize, literals: usize) -> usize
 pub fn save(table: &[i16], n: usize, strip: &mut [u8]) -> Saving
     ensures { λ r. ⌜ called r (now (strip .exit)) ≡ saveCall n (now (table .entry)) (now (strip .entry)) ⌝ }
 {
-    let progress = Progress::begin(n).after(table);
-    let checked = progress.verdict();
+    let pass = Pass::begin(n).after(table);
+    let checked = pass.verdict();
     match checked {
         Checked::Refused(refusal) => Saving::Refused(refusal),
         Checked::Passed => {
             if !mentions::mentions_all(table, n) {
                 return Saving::Refused(Refusal::new(Fault::UnmentionedVariable, 0));
             }
-            if strip.len() < saved_length(progress.clauses as usize, progress.literals as usize) {
+            if strip.len() < saved_length(pass.clauses as usize, pass.literals as usize) {
                 return Saving::Refused(Refusal::new(Fault::StripShort, 0));
             }
             Saving::Saved(put_strip(strip, n as u16, table))

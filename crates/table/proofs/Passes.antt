@@ -22,15 +22,15 @@ use Rattle.theory.specs.Table.{zeros, nonzeros, endsOpen, refused, isUnknown, t
 use Rattle.theory.proofs.Tables.{zeros-append, nonzeros-append, length-elements, accepted-sizes}
 use Rattle.table.specs.declared.Unknown.{Unknown}
 use Rattle.table.specs.declared.Unknown.the-variants.{Nowhere, At}
-use Rattle.table.specs.declared.Progress.{Progress}
-use Rattle.table.specs.Progress.{begin, enoughClauses, enoughLiterals, countIf, placeNext, clauseNext, earlier, next, after, refusedAt, verdict}
+use Rattle.table.specs.declared.Pass.{Pass}
+use Rattle.table.specs.Pass.{begin, enoughClauses, enoughLiterals, countIf, placeNext, clauseNext, earlier, next, after, refusedAt, verdict}
 
 -- a part from index i on: its element there is the next one, and at the end there is none
-pub after-next : (s : Progress) (t : List ℤ) (i : ℕ) → i < length t → after (next s (natAbs (getD t i (pos 0)))) (drop (i + 1) t) ≡ after s (drop i t)
+pub after-next : (s : Pass) (t : List ℤ) (i : ℕ) → i < length t → after (next s (natAbs (getD t i (pos 0)))) (drop (i + 1) t) ≡ after s (drop i t)
 unfolding after
 after-next s t i h = rw (add-one, drop-cons t i (pos 0))
 
-pub after-end : (s : Progress) (t : List ℤ) (i : ℕ) → length t ≤ i → after s (drop i t) ≡ s
+pub after-end : (s : Pass) (t : List ℤ) (i : ℕ) → length t ≤ i → after s (drop i t) ≡ s
 unfolding after
 after-end s t i h = rw (drop-of-length-le t h)
 
@@ -43,24 +43,31 @@ count-if true c m h = elim (decLt c m) [
   | no l ↦ rw (le-ltb c m (omega arith)) (omega arith)
 ]
 
-clauses-of : (s : Progress) (t : List ℤ) → s .clauses ≤ enoughClauses → after s t .clauses ≡ min (s .clauses + zeros t) enoughClauses
+-- a count that stops one past m is above m exactly when the whole count is
+enough : (k m : ℕ) → ltb m (min k (m + 1)) ≡ ltb m k
+enough k m = elim (decLt m k) [
+  | yes h ↦ lt-ltb m (min k (m + 1)) (omega arith) ∙ sym (lt-ltb m k h)
+  | no h ↦ ap (ltb m) (omega arith)
+]
+
+clauses-of : (s : Pass) (t : List ℤ) → s .clauses ≤ enoughClauses → after s t .clauses ≡ min (s .clauses + zeros t) enoughClauses
 unfolding after next zeros
 clauses-of s [] h = omega arith
 clauses-of s (e ∷ t) h = let k = count-if (eqb (natAbs e) 0) (s .clauses) enoughClauses h in omega (arith, k, clauses-of (next s (natAbs e)) t (omega (arith, k)))
 
-literals-of : (s : Progress) (t : List ℤ) → s .literals ≤ enoughLiterals → after s t .literals ≡ min (s .literals + nonzeros t) enoughLiterals
+literals-of : (s : Pass) (t : List ℤ) → s .literals ≤ enoughLiterals → after s t .literals ≡ min (s .literals + nonzeros t) enoughLiterals
 unfolding after next nonzeros
 literals-of s [] h = omega arith
 literals-of s (e ∷ t) h = let k = count-if (not (eqb (natAbs e) 0)) (s .literals) enoughLiterals h in omega (arith, k, literals-of (next s (natAbs e)) t (omega (arith, k)))
 
 -- the rest -------------------------------------------------------------------------------------------------------------
 
-variables-of : (s : Progress) (t : List ℤ) → after s t .variables ≡ s .variables
+variables-of : (s : Pass) (t : List ℤ) → after s t .variables ≡ s .variables
 unfolding after next
 variables-of s [] = refl
 variables-of s (e ∷ t) = variables-of (next s (natAbs e)) t
 
-unclosed-of : (s : Progress) (t : List ℤ) → after s t .unclosed ≡ endsOpen (s .unclosed) t
+unclosed-of : (s : Pass) (t : List ℤ) → after s t .unclosed ≡ endsOpen (s .unclosed) t
 unfolding after next endsOpen
 unclosed-of s [] = refl
 unclosed-of s (e ∷ t) = unclosed-of (next s (natAbs e)) t
@@ -71,13 +78,13 @@ orLater Nowhere c = c
 orLater (At i k) c = refused (UnknownVariable k) i
 
 -- of the elements p passed and of t to come, while the counts are within the limits
-record Before (s : Progress) (p t : List ℤ) : Type 0 where
+record Before (s : Pass) (p t : List ℤ) : Type 0 where
   clauses : s .clauses ≡ zeros p
   literals : s .literals ≡ nonzeros p
   few-clauses : zeros p + zeros t ≤ maxClauses
   few-literals : nonzeros p + nonzeros t ≤ maxLiterals
 
-module _ (s : Progress) (p : List ℤ) (e : ℤ) (t : List ℤ) (b : Before s p (e ∷ t)) where
+module _ (s : Pass) (p : List ℤ) (e : ℤ) (t : List ℤ) (b : Before s p (e ∷ t)) where
   place-here : placeNext s ≡ length p
   place-here = omega (arith, length-elements p, b .clauses, b .literals)
 
@@ -112,7 +119,7 @@ module _ (s : Progress) (p : List ℤ) (e : ℤ) (t : List ℤ) (b : Before s p 
         few-literals = omega (arith, y, b .few-literals);
       }
 
-unknown-of : (s : Progress) (p t : List ℤ) → Before s p t →
+unknown-of : (s : Pass) (p t : List ℤ) → Before s p t →
     refusedAt (after s t .unknown) ≡ orLater (s .unknown) (tableUnknown (p ++ t) (firstPlace (isUnknown (s .variables)) (length p) t))
 unfolding after next firstPlace
 unknown-of s p [] b = go (s .unknown)
@@ -132,13 +139,6 @@ module _ (n : ℕ) (t : List ℤ) where
 
   literals-after : after (begin n) t .literals ≡ min (nonzeros t) enoughLiterals
   literals-after = omega (arith, literals-of (begin n) t (omega arith))
-
-  -- within a limit a count is exact, and past it it is past it
-  enough : (k m : ℕ) → ltb m (min k (m + 1)) ≡ ltb m k
-  enough k m = elim (decLt m k) [
-    | yes h ↦ lt-ltb m (min k (m + 1)) (omega arith) ∙ sym (lt-ltb m k h)
-    | no h ↦ ap (ltb m) (omega arith)
-  ]
 
   -- past the limits the first unknown variable is not asked for
   pub verdict-check : verdict (after (begin n) t) ≡ check n t

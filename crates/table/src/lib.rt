@@ -1,7 +1,7 @@
 // The table check of document 01: refusals 1 to 5, from one pass over the table, which may be handed over in parts (document 02, A4).
 ghost use mathlib.Core.Path.{_≡_};
 ghost use Rattle.theory.specs.Table.{check, refused};
-ghost use Rattle.table.specs.Progress.{begin, oneMore, clauseNext, unknownNext, earlier, next, after, verdict};
+ghost use Rattle.table.specs.Pass.{begin, oneMore, clauseNext, unknownNext, earlier, next, after, verdict};
 use literal::ClauseNumber;
 use literal::Literal;
 use receipt::Checked;
@@ -14,8 +14,9 @@ pub enum Unknown {
     At(usize, ClauseNumber),
 }
 
-// What the check keeps of the elements so far: of how many variables, closed clauses and literals, whether the last element was not 0, and the first unknown variable.
-pub struct Progress {
+// A pass over a table, wherever it stands: the number of variables; of the elements so far the closed clauses and the literals, each counted up to one past its limit,
+// whether the last one was not 0, and the first unknown variable.
+pub struct Pass {
     pub variables: usize,
     pub clauses: u16,
     pub literals: u16,
@@ -50,12 +51,12 @@ pub fn refused(fault: Fault, place: usize) -> Checked
     Checked::Refused(Refusal::new(fault, place))
 }
 
-impl Progress {
+impl Pass {
     // The state at the beginning, for a filing of n placements.
-    pub fn begin(n: usize) -> Progress
+    pub fn begin(n: usize) -> Pass
         ensures { λ r. ⌜ r ≡ begin n ⌝ }
     {
-        Progress {
+        Pass {
             variables: n,
             clauses: 0,
             literals: 0,
@@ -64,15 +65,15 @@ impl Progress {
         }
     }
 
-    // The number of the clause that the next element stands in.
+    // The number of the clause that the next element stands in. Past the limit of clauses nobody asks for it.
     pub fn clause_next(self) -> ClauseNumber
         ensures { λ r. ⌜ r ≡ clauseNext self ⌝ }
     {
         ClauseNumber(one_more(self.clauses, ENOUGH_CLAUSES))
     }
 
-    // Whether the next element, of this size, is of an unknown variable; the counts add up to its index. The size of -32768 is 32768, so it is above every n that is
-    // allowed.
+    // Whether the next element, of this size, is of an unknown variable. The counts add up to its index; past a limit they don't, and 2 or 3 speaks first. The size of
+    // -32768 is 32768, so it is above every n that is allowed.
     fn unknown_next(self, size: u16) -> Unknown
         ensures { λ r. ⌜ r ≡ unknownNext self size ⌝ }
     {
@@ -86,13 +87,13 @@ impl Progress {
     }
 
     // One element more, by its size.
-    fn next(self, size: u16) -> Progress
+    fn next(self, size: u16) -> Pass
         ensures { λ r. ⌜ r ≡ next self size ⌝ }
     {
         let found = self.unknown;
         let unknown = earlier(found, self.unknown_next(size));
         if size == 0 {
-            Progress {
+            Pass {
                 variables: self.variables,
                 clauses: one_more(self.clauses, ENOUGH_CLAUSES),
                 literals: self.literals,
@@ -100,7 +101,7 @@ impl Progress {
                 unknown,
             }
         } else {
-            Progress {
+            Pass {
                 variables: self.variables,
                 clauses: self.clauses,
                 literals: one_more(self.literals, ENOUGH_LITERALS),
@@ -111,14 +112,14 @@ impl Progress {
     }
 
     // The state after one more part.
-    pub fn after(self, part: &[i16]) -> Progress
+    pub fn after(self, part: &[i16]) -> Pass
         ensures { λ r. ⌜ r ≡ after self (now (part .entry)) ⌝ }
     {
-        let mut progress = self;
+        let mut pass = self;
         for i in 0..part.len() {
-            progress = progress.next(literal::size_at(part, i));
+            pass = pass.next(literal::size_at(part, i));
         }
-        progress
+        pass
     }
 
     // "Tables: 1, 2, 3, 4, 5": each refusal is over the whole table before the next.
@@ -149,5 +150,5 @@ impl Progress {
 pub fn check_table(table: &[i16], n: usize) -> Checked
     ensures { λ r. ⌜ r ≡ check n (now (table .entry)) ⌝ }
 {
-    Progress::begin(n).after(table).verdict()
+    Pass::begin(n).after(table).verdict()
 }

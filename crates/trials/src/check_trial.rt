@@ -1,7 +1,7 @@
 // The table check beside the slow one: of a whole table, of the same in two parts, cut anywhere, and in several parts, some of them empty.
 use receipt::Receipt;
 use std::num::wrapping_add_usize;
-use table::Progress;
+use table::Pass;
 use trial::formula::Formula;
 use trial::lists::more;
 use trial::lists::part;
@@ -16,11 +16,11 @@ const PARTS: usize = 7;
 // How far a table is handed over, and the state.
 struct Handed {
     used: usize,
-    progress: Progress,
+    pass: Pass,
 }
 
 fn in_two(table: &[i16], n: usize, cut: usize) -> Receipt {
-    let first = Progress::begin(n).after(part(table, 0, cut));
+    let first = Pass::begin(n).after(part(table, 0, cut));
     let second = first.after(part(table, cut, table.len()));
     second.verdict().receipt()
 }
@@ -37,24 +37,24 @@ fn hand_over(table: &[i16], before: Handed, seed: &mut u64) -> Handed {
     let from = before.used;
     let left = part(table, from, table.len());
     let to = wrapping_add_usize(from, any_length(left.len(), seed));
-    let progress = before.progress;
+    let pass = before.pass;
     Handed {
         used: to,
-        progress: progress.after(part(table, from, to)),
+        pass: pass.after(part(table, from, to)),
     }
 }
 
 fn in_several(table: &[i16], n: usize, seed: &mut u64) -> Receipt {
     let mut handed = Handed {
         used: 0,
-        progress: Progress::begin(n),
+        pass: Pass::begin(n),
     };
     for _i in 0..PARTS {
         handed = hand_over(table, handed, seed);
     }
-    let progress = handed.progress;
+    let pass = handed.pass;
     let last = part(table, handed.used, table.len());
-    progress.after(last).verdict().receipt()
+    pass.after(last).verdict().receipt()
 }
 
 pub fn tried(table: &[i16], formula: Formula, seed: &mut u64, tally: Tally) -> Tally {

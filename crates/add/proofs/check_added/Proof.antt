@@ -8,7 +8,7 @@ use lib.ListN.{length, take}
 use lib.Seq.{length-take-le}
 use Rattle.receipt.specs.declared.Fault.the-variants.{TableShort}
 use Rattle.theory.specs.Table.{check}
-use Rattle.table.specs.Progress.{begin, after, verdict}
+use Rattle.table.specs.Pass.{begin, after, verdict}
 use Rattle.table.proofs.Passes.{verdict-check}
 use Rattle.add.specs.Add.{atMost, checkAdded}
 use Rattle.add.proofs.Refusals.{counts-exact}
@@ -19,7 +19,7 @@ returns : tie.Need-returns
 unfolding checkAdded
 returns c = c .refused .ensures ∙ rw (lt-ltb _ _ (c .before .if1 .taken))
 
--- the new length is no too large number
+-- the new length is below 2^64
 fits : (c : tie.After-unknown-in) →
     let a = c .before .before .before .before .before .before .before .before .before .before .before .args in a .used + length (a .group .now) + 1 < 2 ^ 64
 fits c = small (c .before .before .before .before .before .before .before .before .before .before)

@@ -5,10 +5,10 @@ use Rattle.check_cases.proofs.in_many.Statement.{statement}
 use Rattle.check_cases.proofs.in_many.Tie as tie
 
 abbrev Inv-loop : tie.InvT-loop
-Inv-loop table n size spaced progress₀ from₀ from-end progress from = Unit {0}
+Inv-loop table n size spaced pass₀ from₀ from-end pass from = Unit {0}
 
 abbrev μ-loop : tie.MeasureT-loop
-μ-loop table n size spaced progress₀ from₀ from-end progress from = from-end - from
+μ-loop table n size spaced pass₀ from₀ from-end pass from = from-end - from
 
 pub in-many-spec : {M : Type 1} → statement M
 in-many-spec =

@@ -5,10 +5,10 @@ use Rattle.check_cases.proofs.repeated.Statement.{statement}
 use Rattle.check_cases.proofs.repeated.Tie as tie
 
 abbrev Inv-loop : tie.InvT-loop
-Inv-loop again times progress₀ -i₀ progress -i = Unit {0}
+Inv-loop again times pass₀ -i₀ pass -i = Unit {0}
 
 abbrev μ-loop : tie.MeasureT-loop
-μ-loop again times progress₀ -i₀ progress -i = times - -i
+μ-loop again times pass₀ -i₀ pass -i = times - -i
 
 pub repeated-spec : {M : Type 1} → statement M
 repeated-spec =

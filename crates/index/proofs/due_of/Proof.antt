@@ -9,14 +9,14 @@ use Rattle.receipt.specs.declared.Checked.{Checked}
 use Rattle.receipt.specs.declared.Checked.the-variants.{Passed, Refused}
 use Rattle.theory.specs.Table.{check}
 use Rattle.table.proofs.Passes.{verdict-check, clauses-exact}
-use Rattle.table.specs.Progress.{begin, after, verdict}
-use Rattle.table.specs.declared.Progress.{Progress}
+use Rattle.table.specs.Pass.{begin, after, verdict}
+use Rattle.table.specs.declared.Pass.{Pass}
 use Rattle.index.specs.Index.{dueRefused, dueChecked, dueOf}
 use Rattle.index.proofs.due_of.Statement.{statement}
 use Rattle.index.proofs.due_of.Tie as tie
 
 -- what the state after the table and its verdict say of a call
-module _ (n room : ℕ) (t : List ℤ) (s : Progress) (k : Checked) (gone : s ≡ after (begin n) t) (judged : k ≡ verdict s) where
+module _ (n room : ℕ) (t : List ℤ) (s : Pass) (k : Checked) (gone : s ≡ after (begin n) t) (judged : k ≡ verdict s) where
   checked : check n t ≡ k
   checked = sym (judged ∙ ap verdict gone ∙ verdict-check n t)
 

@@ -9,8 +9,8 @@ use Rattle.theory.specs.Table.{zeros, nonzeros, check, Accepted}
 use Rattle.theory.specs.Encoding.{savedLength}
 use Rattle.theory.specs.Mentions.{Mentioned}
 use Rattle.theory.proofs.Tables.{accepted-sizes, accepted-closed}
-use Rattle.table.specs.declared.Progress.{Progress}
-use Rattle.table.specs.Progress.{begin, after, verdict}
+use Rattle.table.specs.declared.Pass.{Pass}
+use Rattle.table.specs.Pass.{begin, after, verdict}
 use Rattle.table.proofs.Passes.{verdict-check, clauses-exact, literals-exact}
 use Rattle.save.proofs.Calling.{call-refused, call-unmentioned, call-short, has-room, call-saved}
 use Rattle.save.proofs.save.Statement.{statement}
@@ -28,10 +28,10 @@ accepted c = checked (c .before .before) ∙ c .enum-told .given .1
 
 -- it has the table's groups and entries
 clauses-counted : (c : tie.After-enum-told) → let p = c .before .before .before in p .after .result .clauses ≡ zeros (p .before .before .before .args .table .now)
-clauses-counted c = ap (λ (s : Progress). s .clauses) (gone (c .before .before .before)) ∙ clauses-exact _ _ (accepted c)
+clauses-counted c = ap (λ (s : Pass). s .clauses) (gone (c .before .before .before)) ∙ clauses-exact _ _ (accepted c)
 
 literals-counted : (c : tie.After-enum-told) → let p = c .before .before .before in p .after .result .literals ≡ nonzeros (p .before .before .before .args .table .now)
-literals-counted c = ap (λ (s : Progress). s .literals) (gone (c .before .before .before)) ∙ literals-exact _ _ (accepted c)
+literals-counted c = ap (λ (s : Pass). s .literals) (gone (c .before .before .before)) ∙ literals-exact _ _ (accepted c)
 
 -- what is known of the placements
 mentioned : (c : tie.Else1) → let a = c .before .before .before .before .before .before .before .before .args in Mentioned (a .n) (a .table .now)
@@ -42,6 +42,7 @@ returns c =
     let l = c .before .before in
     rw (c .new .ensures) (call-unmentioned _ _ _ (accepted (l .before)) (sym (l .mentions-all .ensures) ∙ not-true _ (c .before .if1 .taken)))
 
+-- both counts are within the limits
 saved-length-requires : tie.Need-saved-length-requires
 saved-length-requires c κs =
     let e = c .before .before .before .before in

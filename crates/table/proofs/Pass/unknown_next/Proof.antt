@@ -1,8 +1,8 @@
--- `Progress::unknown_next` meets its contract.
+-- `Pass::unknown_next` meets its contract.
 use borrow.Author.Needs.{needs}
 use borrow.Author.Tests.{lt-ltb, le-ltb}
-use Rattle.table.proofs.Progress.unknown_next.Statement.{statement}
-use Rattle.table.proofs.Progress.unknown_next.Tie as tie
+use Rattle.table.proofs.Pass.unknown_next.Statement.{statement}
+use Rattle.table.proofs.Pass.unknown_next.Tie as tie
 
 pub unknown-next-spec : {M : Type 1} → statement M
 unknown-next-spec =

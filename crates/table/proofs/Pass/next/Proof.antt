@@ -1,10 +1,10 @@
--- `Progress::next` meets its contract: an element closes a clause or is a literal, and an unknown variable found before stays.
+-- `Pass::next` meets its contract: an element closes a clause or is a literal, and an unknown variable found before stays.
 use mathlib.Core.Path.{_≡_, ap, _∙_}
 use borrow.Author.Needs.{needs}
 use borrow.Author.Tests.{eq-eqb, ne-eqb}
-use Rattle.table.specs.Progress.{unknownNext, earlier, next}
-use Rattle.table.proofs.Progress.next.Statement.{statement}
-use Rattle.table.proofs.Progress.next.Tie as tie
+use Rattle.table.specs.Pass.{unknownNext, earlier, next}
+use Rattle.table.proofs.Pass.next.Statement.{statement}
+use Rattle.table.proofs.Pass.next.Tie as tie
 
 found : (c : tie.After-earlier) → let a = c .before .before .args in c .earlier .result ≡ earlier (a .self .unknown) (unknownNext (a .self) (a .size))
 found c = c .earlier .ensures ∙ ap (earlier (c .before .before .args .self .unknown)) (c .before .unknown-next .ensures)

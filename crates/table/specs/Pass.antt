@@ -12,10 +12,10 @@ use Rattle.receipt.specs.declared.Checked.the-variants.{Passed}
 use Rattle.theory.specs.Table.{refused}
 use Rattle.table.specs.declared.Unknown.{Unknown}
 use Rattle.table.specs.declared.Unknown.the-variants.{Nowhere, At}
-use Rattle.table.specs.declared.Progress.{Progress}
+use Rattle.table.specs.declared.Pass.{Pass}
 
 -- no element yet, of a filing with n placements
-abbrev pub begin : ℕ → Progress
+abbrev pub begin : ℕ → Pass
 begin n = record { variables = n; clauses = 0; literals = 0; unclosed = false; unknown = Nowhere }
 
 -- one past each limit: a table that has so many is refused, whatever follows
@@ -32,15 +32,15 @@ oneMore count enough = cond (ltb count enough) (count + 1) count
 abbrev pub countIf : Bool → ℕ → ℕ → ℕ
 countIf b count enough = cond b (oneMore count enough) count
 
--- the index of the next element, and the number of the clause that it stands in
-abbrev pub placeNext : Progress → ℕ
+-- the index of the next element, and the number of the clause that it stands in; past a limit 2 or 3 speaks first, and neither is asked for
+abbrev pub placeNext : Pass → ℕ
 placeNext s = s .clauses + s .literals
 
-abbrev pub clauseNext : Progress → ClauseNumber
+abbrev pub clauseNext : Pass → ClauseNumber
 clauseNext s = clauseNumber (oneMore (s .clauses) enoughClauses)
 
 -- the next element, of size k, if its variable is unknown
-abbrev pub unknownNext : Progress → ℕ → Unknown
+abbrev pub unknownNext : Pass → ℕ → Unknown
 unknownNext s k = cond (ltb (s .variables) k) (At (placeNext s) (clauseNext s)) Nowhere
 
 -- the first one found stays
@@ -49,7 +49,7 @@ earlier Nowhere u = u
 earlier (At i k) u = At i k
 
 -- one element more, of size k; one of size 0 closes a clause
-unfoldable pub next : Progress → ℕ → Progress
+unfoldable pub next : Pass → ℕ → Pass
 next s k =
     record {
       variables = s .variables;
@@ -60,12 +60,12 @@ next s k =
     }
 
 -- one part more
-unfoldable pub after : Progress → List ℤ → Progress
+unfoldable pub after : Pass → List ℤ → Pass
 after s [] = s
 after s (e ∷ t) = after (next s (natAbs e)) t
 
 -- one part after the other
-unfoldable pub afterAll : Progress → List (List ℤ) → Progress
+unfoldable pub afterAll : Pass → List (List ℤ) → Pass
 afterAll s [] = s
 afterAll s (t ∷ ts) = afterAll (after s t) ts
 
@@ -74,7 +74,7 @@ refusedAt Nowhere = Passed
 refusedAt (At i k) = refused (UnknownVariable k) i
 
 -- "Tables: 1, 2, 3, 4, 5"
-unfoldable pub verdict : Progress → Checked
+unfoldable pub verdict : Pass → Checked
 verdict s =
     cond (ltb maxVariables (s .variables)) (refused TooManyVariables 0)
     (cond (ltb maxClauses (s .clauses)) (refused TooManyClauses 0)

@@ -1,13 +1,13 @@
--- `Progress::verdict` meets its contract: each return has the tests of the ones before it behind it.
+-- `Pass::verdict` meets its contract: each return has the tests of the ones before it behind it.
 use mathlib.Core.Path.{_≡_, sym, ap, _∙_}
 use mathlib.Core.Bool.{cond}
 use borrow.Author.Needs.{needs}
 use borrow.Author.Tests.{lt-ltb, le-ltb}
 use Rattle.receipt.specs.declared.Fault.the-variants.{OpenClause}
 use Rattle.theory.specs.Table.{refused}
-use Rattle.table.specs.Progress.{verdict, refusedAt}
-use Rattle.table.proofs.Progress.verdict.Statement.{statement}
-use Rattle.table.proofs.Progress.verdict.Tie as tie
+use Rattle.table.specs.Pass.{verdict, refusedAt}
+use Rattle.table.proofs.Pass.verdict.Statement.{statement}
+use Rattle.table.proofs.Pass.verdict.Tie as tie
 
 returns : tie.Need-returns
 unfolding verdict
