@@ -22,3 +22,12 @@ pub fn clear_numbers(numbers: &mut [i16], n: usize)
         numbers[i] = 0;
     }
 }
+
+pub fn clear_reasons(reasons: &mut [u16], n: usize)
+    requires { ⌜ n ≤ length (now reasons) ⌝ }
+    ensures { λ _. ⌜ now (reasons .exit) ≡ over n (replicate n 0) (now (reasons .entry)) ⌝ }
+{
+    for i in 0..n {
+        reasons[i] = 0;
+    }
+}

@@ -121,6 +121,12 @@ module _ {A : Type 0} where
   getD-past (x ∷ l) zero d h = absurd (omega arith)
   getD-past (x ∷ l) (suc i) d h = getD-past l i d (omega arith)
 
+  -- one value throughout, and past the end
+  pub getD-throughout : (n i : ℕ) (a : A) → getD (replicate n a) i a ≡ a
+  getD-throughout zero i a = refl
+  getD-throughout (suc n) zero a = refl
+  getD-throughout (suc n) (suc i) a = getD-throughout n i a
+
   pub drop-replicate : (a : A) (m n : ℕ) → drop m (replicate n a) ≡ replicate (n - m) a
   drop-replicate a zero n = let e : n - 0 ≡ n = omega arith in rw e
   drop-replicate a (suc m) zero = let e : 0 - suc m ≡ 0 = omega arith in rw e

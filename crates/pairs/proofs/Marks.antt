@@ -3,9 +3,10 @@ use mathlib.Core.Path.{_≡_, refl, ap, sym, _∙_}
 use mathlib.Core.Logic.{_⊎_, inl, inr, _≢_, ⊎-elim}
 use mathlib.Core.List.{List, [], _∷_, List·Memᴰ, List·Memᴰ·head, List·Memᴰ·tail}
 use Prim.Native.Nat.{ℕ, _/_, _<_, _≤_}
-use native.Mathlib.Decide.{decLt, ℕ-discrete as decEq}
+use native.Mathlib.Decide.{ℕ-discrete as decEq}
 use native.Mathlib.Omega.{arith}
-use lib.ListN.{getD, set, length, length-set, replicate, length-replicate, getD-replicate, List·getD-eq-default}
+use lib.ListN.{getD, set, length, length-set, replicate, length-replicate}
+use Rattle.general.specs.Lists.{getD-throughout}
 use lib.Seq.{getD-set-same, getD-set-other}
 use Rattle.literal.specs.declared.Literal.{Literal}
 use Rattle.literal.specs.Literal.{FALSE, var, codeOf, literalAt, maxVariables}
@@ -30,14 +31,8 @@ marks-begin s c = record {
   long = length-replicate {A = ℕ} 257 0;
   part = λ l m. m;
   all = λ y m. inr m;
-  only = λ p o h. absurd (omega (arith, none p));
+  only = λ p o h. absurd (omega (arith, getD-throughout {A = ℕ} 257 p 0));
 }
-  where
-    none : (p : ℕ) → _≡_ {A = ℕ} (getD (replicate 257 0) p 0) 0
-    none p = elim (decLt p 257) [
-      | yes h ↦ getD-replicate 257 p 0 0 h
-      | no h ↦ let b : length (replicate {A = ℕ} 257 0) ≤ p = omega (arith, length-replicate {A = ℕ} 257 0) in List·getD-eq-default (replicate 257 0) 0 b
-    ]
 
 module _ (s : State) (c : Clause) (w : Wide (standing s c)) (k : Distinct (standing s c)) where
   opened : (y : Literal) → List·Memᴰ y (standing s c) → 0 < var y

@@ -9,7 +9,8 @@ use native.Mathlib.Decide.{ℕ-discrete, decLt}
 use native.Mathlib.Omega.{arith}
 use borrow.Author.Tests.{ltb-false}
 use lib.IntN.{ℤ}
-use lib.ListN.{length, getD, set, drop, drop-of-length-le, replicate, length-set, length-replicate, getD-replicate, List·getD-eq-default}
+use lib.ListN.{length, set, drop, drop-of-length-le, replicate, length-set, length-replicate}
+use Rattle.general.specs.Lists.{getD-throughout}
 use lib.Seq.{getD-set-other}
 use Rattle.general.specs.Booleans.{true-not-false}
 use Rattle.literal.specs.declared.Literal.{Literal}
@@ -42,13 +43,7 @@ module _ (t : List ℤ) (v : List ℕ) (rule : PairRule) where
   none-alone k i e = λ h m. clause-none (standing (stateOf v)) _ (k + 1) (clauses (drop (nextOf t i) t)) (sym e) m
 
   pub noted-none : Noted t v rule (replicate maxTable false)
-  noted-none = record { room = length-replicate {A = Bool} maxTable false; alone = λ i e. absurd (true-not-false e (unset i)) }
-    where
-      unset : (i : ℕ) → getD (replicate maxTable false) i false ≡ false
-      unset i = elim (decLt i maxTable) [
-        | yes h ↦ getD-replicate {A = Bool} maxTable i false false h
-        | no h ↦ List·getD-eq-default (replicate maxTable false) false {n = i} (omega (arith, length-replicate {A = Bool} maxTable false))
-      ]
+  noted-none = record { room = length-replicate {A = Bool} maxTable false; alone = λ i e. absurd (true-not-false e (getD-throughout maxTable i false)) }
 
   -- one more that has no partner
   pub noted-more : {m : List Bool} → Noted t v rule m → (k i : ℕ) → none ≡ firstPartner t v rule k i → Noted t v rule (set m i true)

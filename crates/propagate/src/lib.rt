@@ -7,12 +7,13 @@ ghost use lib.ListN.{length};
 ghost use Rattle.literal.specs.Literal.{var, maxVariables, maxTable};
 ghost use Rattle.theory.specs.Formula.{clauses, Within};
 ghost use Rattle.theory.specs.State.{WellFormed};
-ghost use Rattle.theory.specs.Propagation.{step, settle};
+ghost use Rattle.theory.specs.Propagation.{step};
+ghost use Rattle.theory.specs.Reasons.{unexplained, credit, explain};
 ghost use Rattle.state.specs.State.{stateOf, InRange};
 ghost use Rattle.clause.specs.Reading.{Readable, Ready, Begins, clauseAt};
 ghost use Rattle.rules.specs.Rules.{Without, Side};
 ghost use Rattle.rules.specs.declared.PairRule.the-variants.{Seven, Eight};
-ghost use Rattle.propagate.specs.Code.{answer, firstFrom, firstOfPairs, settled};
+ghost use Rattle.propagate.specs.Code.{answer, firstFrom, firstOfPairs, reasonsOf, explanation};
 ghost use Rattle.propagate.specs.Partners.{firstPartner, Noted, NoneNoted, Kept, Apart, StaysApart, PartedAll, NotedAfter};
 use clause::Next;
 use literal::ClauseNumber;
@@ -30,10 +31,12 @@ pub enum Answer {
     Asks(Asked),
 }
 
-// Where settling ends. At a dead end the state is free: code leaves the one in which the dead end was met.
+// Where settling ends, with the clause that settled or tied each variable, by its index, or 0. At a dead end both are free: code leaves those in which
+// the dead end was met.
 pub struct Settled {
     pub dead: bool,
     pub state: State,
+    pub reasons: [u16; Literal::VARIABLES],
 }
 
 // The first clause from the one at `from`, which has number `clause`, that a rule fits.
@@ -402,7 +405,38 @@ fn look_again(
     part_all(table, before, values, rule, y, alone);
 }
 
+// The same for rules 7 and 8.
+fn look_again_at_both(
+    table: &[i16],
+    before: &[u16; Literal::VARIABLES],
+    values: &[u16; Literal::VARIABLES],
+    step: Step,
+    alone7: &mut [bool; Literal::MAX_TABLE],
+    alone8: &mut [bool; Literal::MAX_TABLE],
+)
+    requires { ⌜ Ready (now table) (now before) ⌝ }
+    requires { ⌜ Ready (now table) (now values) ⌝ }
+    requires { ⌜ Noted (now table) (now before) Seven (now alone7) ⌝ }
+    requires { ⌜ Noted (now table) (now before) Eight (now alone8) ⌝ }
+    ensures noted7 { λ r. ⌜ NotedAfter (now (table .entry)) (now (before .entry)) (now (values .entry)) Seven step (now (alone7 .exit)) ⌝ }
+    ensures noted8 { λ r. ⌜ NotedAfter (now (table .entry)) (now (before .entry)) (now (values .entry)) Eight step (now (alone8 .exit)) ⌝ }
+{
+    look_again(table, before, values, PairRule::Seven, step, alone7);
+    look_again(table, before, values, PairRule::Eight, step, alone8);
+}
+
 // Settling ----------------------------------------------------------------------------------------------------------
+
+// The clause that asked the step has settled or tied x's variable: a number is written once, and followers keep theirs.
+fn credit(reasons: &mut [u16; Literal::VARIABLES], clause: ClauseNumber, x: Literal)
+    requires { ⌜ var x ≤ maxVariables ⌝ }
+    requires { ⌜ length (now reasons) ≡ maxVariables + 1 ⌝ }
+    ensures says { λ r. ⌜ reasonsOf (now (reasons .exit)) ≡ credit (clause .0) x (reasonsOf (now (reasons .entry))) ⌝ }
+    ensures room { λ r. ⌜ length (now (reasons .exit)) ≡ length (now (reasons .entry)) ⌝ }
+{
+    let p = x.variable().0 as usize;
+    reasons[p] = clause.0;
+}
 
 // Settling from a state to its end.
 pub fn propagate(table: &[i16], n: usize, state: State) -> Settled
@@ -410,10 +444,11 @@ pub fn propagate(table: &[i16], n: usize, state: State) -> Settled
     requires { ⌜ Within n (clauses (now table)) ⌝ }
     requires { ⌜ WellFormed n (stateOf (state .values)) ⌝ }
     requires { ⌜ n ≤ maxVariables ⌝ }
-    ensures says { λ r. ⌜ settled r ≡ settle n (clauses (now (table .entry))) (stateOf (state .values)) ⌝ }
+    ensures says { λ r. ⌜ explanation r ≡ explain n (clauses (now (table .entry))) (unexplained (stateOf (state .values))) ⌝ }
     ensures range { λ r. ⌜ InRange (r .state .values) ⌝ }
 {
     let mut s = state;
+    let mut reasons = [0u16; Literal::VARIABLES];
     let mut alone7 = [false; Literal::MAX_TABLE];
     let mut alone8 = [false; Literal::MAX_TABLE];
     loop {
@@ -422,6 +457,7 @@ pub fn propagate(table: &[i16], n: usize, state: State) -> Settled
             return Settled {
                 dead: false,
                 state: s,
+                reasons,
             };
         };
         let asks = asked.step;
@@ -429,24 +465,18 @@ pub fn propagate(table: &[i16], n: usize, state: State) -> Settled
             return Settled {
                 dead: true,
                 state: s,
+                reasons,
             };
         };
         let before = s;
         s = state::assign(before, x, t);
-        look_again(
+        credit(&mut reasons, asked.clause, x);
+        look_again_at_both(
             table,
             &before.values,
             &s.values,
-            PairRule::Seven,
             asks,
             &mut alone7,
-        );
-        look_again(
-            table,
-            &before.values,
-            &s.values,
-            PairRule::Eight,
-            asks,
             &mut alone8,
         );
     }

@@ -25,6 +25,7 @@ pub enum Fault {
     StripTooLong,
     StripShort,
     UnmentionedVariable,
+    ReasonsShort,
 }
 
 impl Fault {
@@ -52,6 +53,7 @@ impl Fault {
             Fault::StripTooLong => 24,
             Fault::StripShort => 25,
             Fault::UnmentionedVariable => 26,
+            Fault::ReasonsShort => 19,
         }
     }
 

@@ -26,6 +26,7 @@ use Rattle.theory.specs.Bound.{N}
 use Rattle.theory.specs.Calls.{SearchCall, searchedCall, searchRefused, searchChecked, searchCall}
 use Rattle.theory.specs.Formula.{Choice, clauses, Solution}
 use Rattle.theory.specs.Order.{_≼_, Least}
+use Rattle.theory.specs.Reasons.{searchBy}
 use Rattle.theory.specs.Search.{treeOf, needs, search, planOf, trailOf}
 use Rattle.theory.specs.Table.{check, Accepted}
 use Rattle.theory.specs.Tree.{Found, Result}
@@ -33,6 +34,7 @@ use Rattle.theory.specs.Unknown.{UnknownInTable, Names}
 use Rattle.theory.proofs.Budget.{limited-empty}
 use Rattle.theory.proofs.Demands as demands
 use Rattle.theory.proofs.Paths.{plan-long, trail-long}
+use Rattle.theory.proofs.Forgetting.{search-forgets}
 use Rattle.theory.proofs.Tables.{accepted-sizes, accepted-exactly}
 use Rattle.theory.proofs.Unknown.{none-named, check-names}
 use Rattle.search.specs.Call.{Acceptable, Call, NotRefused, Reports, countOf, Alike}
@@ -115,6 +117,10 @@ module _ {n : ℕ} {t : List ℤ} {b : ℕ} {plan : List ℕ} {trail : List ℤ}
 
   trail-first : take n (s .trail) ≡ trailOf n (r .found)
   trail-first = rw (searched c) (take-at (trailOf n (r .found)) (drop n trail) n (trail-long n t accepted b))
+
+  -- A5: "The tree, its count and every plan are unchanged": a search that kept reasons would answer and write the same, the trail too
+  pub search-explained : s ≡ searchedCall n (searchBy n t b) plan trail
+  search-explained = searched c ∙ ap (λ (x : Result Choice). searchedCall n x plan trail) (sym (search-forgets n t b))
 
   -- demand 1: "a search brings back a layout, no layout, or a stop"
   pub ends : Reports s LaidOut ⊎ Reports s NoLayout ⊎ Reports s Stopped

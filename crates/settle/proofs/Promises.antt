@@ -1,32 +1,38 @@
--- What a call of Settle promises, by its number on the receipt and the list after it. All of it follows from the equation that `settle` ensures.
-use mathlib.Core.Path.{_≡_, refl, ap, sym, subst}
-use mathlib.Core.Logic.{_⊎_, inl, inr, _↔_}
+-- What a call of Settle promises, by its number on the receipt and both lists after it. All of it follows from the equation that `settle` ensures.
+use mathlib.Core.Path.{_≡_, refl, ap, sym, subst, _∙_}
+use mathlib.Core.Logic.{_⊎_, inl, inr, _↔_, _≢_}
 use mathlib.Core.List.{List}
-use Prim.Native.Nat.{ℕ, _≤_}
+use Prim.Native.Nat.{ℕ, suc, _<_, _≤_}
 use native.Mathlib.Omega.{arith}
-use borrow.Author.Tests.{ltb-true, ltb-false}
+use borrow.Author.Tests.{ltb-true, ltb-false, lt-ltb, le-ltb}
 use lib.Dec.{ltb}
 use lib.IntN.{ℤ, pos as posℤ}
-use lib.ListN.{length, take, drop, replicate, length-replicate}
+use lib.ListN.{length, getD, take, drop, replicate, length-replicate}
 use lib.Seq.{take-at, drop-at}
 use Rattle.general.specs.Booleans.{cond-ind}
 use Rattle.general.specs.Lists.{upTo, length-from}
-use Rattle.receipt.specs.Receipt.{receipt}
+use Rattle.receipt.specs.Receipt.{refusal, receipt}
 use Rattle.receipt.specs.Answers.{settlingReceipt}
+use Rattle.receipt.specs.declared.Fault.the-variants.{StateShort, ReasonsShort}
 use Rattle.receipt.specs.declared.Checked.{Checked}
 use Rattle.receipt.specs.declared.Checked.the-variants.{Passed, Refused}
 use Rattle.receipt.specs.declared.Refusal.{Refusal}
 use Rattle.receipt.specs.declared.Settling.{Settling}
 use Rattle.receipt.specs.declared.Settling.the-variants as settling
 use Rattle.receipt.proofs.Numbers.{not-refused}
-use Rattle.theory.specs.Calls.{over, stateEntry, SettleCall, settledCall, settleChecked, settleCall}
+use Rattle.theory.specs.Calls.{over, stateEntry, settlingOf, stateList, reasonList, SettleCall, settledCall, settleChecked, settleCall}
 use Rattle.theory.specs.Formula.{Choice, clauses, Solution, Within}
-use Rattle.theory.specs.Propagation.{Settled, dead, rest, settle}
+use Rattle.theory.specs.Propagation.{settle}
+use Rattle.theory.specs.Propagation as plain
+use Rattle.theory.specs.Reasons.{Explained, unexplained, Explanation, dead, rest, propagateBy, explain, forget, SettledBy}
 use Rattle.theory.specs.SettledList.{stateIn, Remains}
-use Rattle.theory.specs.State.{State, initial}
-use Rattle.theory.specs.Table.{check, WithinLimits}
+use Rattle.theory.specs.State.{initial}
+use Rattle.theory.specs.Table.{zeros, Accepted, check, WithinLimits}
 use Rattle.theory.specs.Unknown.{UnknownInTable, Names}
-use Rattle.theory.proofs.SettledList.{list-read, dead-end-none, settled-well, settled-remains}
+use Rattle.theory.proofs.Heads.{clauses-zeros}
+use Rattle.theory.proofs.Forgetting.{settle-forgets}
+use Rattle.theory.proofs.Reasons.{reason-open, reason-named, reason-kept}
+use Rattle.theory.proofs.SettledList.{entry-open, written-at, list-read, dead-end-none, settled-well, settled-remains}
 use Rattle.theory.proofs.Tables.{accepted-sizes, accepted-exactly, accepted-within}
 use Rattle.theory.proofs.Unknown.{none-named, check-names}
 use Rattle.settle.specs.Settle.{called}
@@ -37,113 +43,230 @@ numberOf r = settlingReceipt r .number
 abbrev pub NotRefused : Settling → Type 0
 NotRefused r = (w : Refusal) → ¬ (r ≡ settling.Refused w)
 
--- a call of Settle: its answer r, and the list before and after it
-pub record Call (n : ℕ) (t l : List ℤ) (r : Settling) (l′ : List ℤ) : Type 0 where
-  pub is : called r l′ ≡ settleCall n t l
+-- a call of Settle: its answer r, and both lists before and after it
+pub record Call (n : ℕ) (t l : List ℤ) (m : List ℕ) (r : Settling) (l′ : List ℤ) (m′ : List ℕ) : Type 0 where
+  pub is : called r l′ m′ ≡ settleCall n t l m
+
+-- a call that is accepted: a table within the limits, and room for n elements in both lists
+pub record Accepting (n : ℕ) (t l : List ℤ) (m : List ℕ) : Type 0 where
+  pub within : WithinLimits n t
+  pub list-room : n ≤ length l
+  pub reasons-room : n ≤ length m
+
+-- the settling that the call is about
+abbrev pub settling-of : ℕ → List ℤ → Explanation
+settling-of n t = explain n (clauses t) (unexplained initial)
 
 -- the three ways in which a call ends
-data Way (n : ℕ) (t l : List ℤ) : Settling → List ℤ → Type 0 where
-  refused : (w : Refusal) → ¬ (WithinLimits n t × (n ≤ length l)) → Way n t l (settling.Refused w) l
-  dead-end : WithinLimits n t → n ≤ length l → settle n (clauses t) initial ≡ dead → Way n t l settling.NoLayout (over n (replicate n (posℤ 0)) l)
-  settled : WithinLimits n t → n ≤ length l → (u : State) → settle n (clauses t) initial ≡ rest u → Way n t l settling.Settled (over n (upTo (λ p. stateEntry (u p)) n) l)
+data Way (n : ℕ) (t l : List ℤ) (m : List ℕ) : Settling → List ℤ → List ℕ → Type 0 where
+  refused : (w : Refusal) → ¬ Accepting n t l m → Way n t l m (settling.Refused w) l m
+  dead-end : Accepting n t l m → settling-of n t ≡ dead → Way n t l m settling.NoLayout (over n (replicate n (posℤ 0)) l) (over n (replicate n 0) m)
+  settled : Accepting n t l m → (u : Explained) → settling-of n t ≡ rest u →
+      Way n t l m settling.Settled (over n (upTo (λ p. stateEntry (u .state p)) n) l) (over n (upTo (u .reasons) n) m)
 
-abbrev By : ℕ → List ℤ → List ℤ → SettleCall → Type 0
-By n t l s = Way n t l (s .answer) (s .list)
+abbrev By : ℕ → List ℤ → List ℤ → List ℕ → SettleCall → Type 0
+By n t l m s = Way n t l m (s .answer) (s .list) (s .reasons)
 
-way : {n : ℕ} {t l : List ℤ} {r : Settling} {l′ : List ℤ} → Call n t l r l′ → Way n t l r l′
+-- settling as it was
+forgotten : (n : ℕ) (t : List ℤ) {o : Explanation} → settling-of n t ≡ o → settle n (clauses t) initial ≡ forget o
+forgotten n t e = sym (settle-forgets n (clauses t) (unexplained initial)) ∙ ap forget e
+
+way : {n : ℕ} {t l : List ℤ} {m : List ℕ} {r : Settling} {l′ : List ℤ} {m′ : List ℕ} → Call n t l m r l′ m′ → Way n t l m r l′ m′
 unfolding settleCall
-way {n} {t} {l} c = subst (By n t l) (sym (c .is)) (checked (check n t) refl)
+way {n} {t} {l} {m} c = subst (By n t l m) (sym (c .is)) (checked (check n t) refl)
   where
-    ended : WithinLimits n t → n ≤ length l → (o : Settled) → settle n (clauses t) initial ≡ o → By n t l (settledCall n o l)
-    ended w h dead e = dead-end w h e
-    ended w h (rest u) e = settled w h u e
+    ended : Accepting n t l m → (o : Explanation) → settling-of n t ≡ o → By n t l m (settledCall n (clauses t) l m)
+    ended a dead e = rw (e, forgotten n t e) (dead-end a e)
+    ended a (rest u) e = rw (e, forgotten n t e) (settled a u e)
 
-    checked : (k : Checked) → check n t ≡ k → By n t l (settleChecked k n t l)
-    checked (Refused w) e = refused w (λ h. let z : _≡_ {A = ℕ} 0 1 = cc (accepted-exactly n t .1 (h .0)) in omega arith)
-    checked Passed e = cond-ind (By n t l) _ _ (ltb (length l) n)
-        (λ b. refused _ (λ h. omega (arith, h .1, ltb-true (length l) n b)))
-        (λ b. ended (accepted-sizes n t e) (ltb-false (length l) n b) (settle n (clauses t) initial) refl)
+    checked : (k : Checked) → check n t ≡ k → By n t l m (settleChecked k n t l m)
+    checked (Refused w) e = refused w (λ h. let z : _≡_ {A = ℕ} 0 1 = cc (accepted-exactly n t .1 (h .within)) in omega arith)
+    checked Passed e = cond-ind (By n t l m) _ _ (ltb (length l) n)
+        (λ b. refused _ (λ h. omega (arith, h .list-room, ltb-true (length l) n b)))
+        (λ b. cond-ind (By n t l m) _ _ (ltb (length m) n)
+        (λ d. refused _ (λ h. omega (arith, h .reasons-room, ltb-true (length m) n d)))
+        (λ d.
+        ended (record { within = accepted-sizes n t e; list-room = ltb-false (length l) n b; reasons-room = ltb-false (length m) n d })
+        (settling-of n t) refl))
 
-within : {n : ℕ} {t : List ℤ} → WithinLimits n t → Within n (clauses t)
-within {n} {t} w = accepted-within n t (accepted-exactly n t .1 w)
+within-of : {n : ℕ} {t : List ℤ} → WithinLimits n t → Within n (clauses t)
+within-of {n} {t} w = accepted-within n t (accepted-exactly n t .1 w)
 
 -- a list whose first n elements are written has the rest that it had
-rest-of : (n : ℕ) (new old : List ℤ) → length new ≡ n → drop n (over n new old) ≡ drop n old
+rest-of : {A : Type 0} (n : ℕ) (new old : List A) → length new ≡ n → drop n (over n new old) ≡ drop n old
 rest-of n new old e = drop-at new (drop n old) n e
 
-module _ {n : ℕ} {t l : List ℤ} {r : Settling} {l′ : List ℤ} (c : Call n t l r l′) where
+-- and those elements
+first-of : {A : Type 0} (n : ℕ) (old : List A) (a : A) → take n (over n (replicate n a) old) ≡ replicate n a
+first-of n old a = take-at (replicate n a) (drop n old) n (length-replicate n a)
+
+-- where a call settles: the state in which settling ends, with its reasons, and what both lists have of each placement
+record End (n : ℕ) (t l′ : List ℤ) (m′ : List ℕ) : Type 0 where
+  limits : WithinLimits n t
+  state : Explained
+  is : settling-of n t ≡ rest state
+  entry : (i : ℕ) → i < n → getD l′ i (posℤ 0) ≡ stateEntry (state .state (suc i))
+  reason : (i : ℕ) → i < n → getD m′ i 0 ≡ state .reasons (suc i)
+
+end : {n : ℕ} {t l : List ℤ} {m : List ℕ} {r : Settling} {l′ : List ℤ} {m′ : List ℕ} → Way n t l m r l′ m′ → numberOf r ≡ 13 → End n t l′ m′
+end (refused w h) q = absurd (not-refused (w .fault) 13 refl q)
+end (dead-end a e) q = absurd (omega arith)
+end {n} {t} {l} {m} (settled a u e) q = record {
+  limits = a .within;
+  state = u;
+  is = e;
+  entry = λ i h. written-at (λ p. stateEntry (u .state p)) n l i (posℤ 0) h;
+  reason = λ i h. written-at (u .reasons) n m i 0 h;
+}
+
+module _ {n : ℕ} {t l : List ℤ} {m : List ℕ} {r : Settling} {l′ : List ℤ} {m′ : List ℕ} (c : Call n t l m r l′ m′) where
   -- demand 1: "Every table .. within the limits of document 01, with room lent for the results, is accepted"; "Every other input is refused"
-  pub settle-accepts : NotRefused r ↔ (WithinLimits n t × (n ≤ length l))
+  pub settle-accepts : NotRefused r ↔ Accepting n t l m
   settle-accepts = go (way c)
     where
-      go : {r : Settling} {l′ : List ℤ} → Way n t l r l′ → NotRefused r ↔ (WithinLimits n t × (n ≤ length l))
+      go : {r : Settling} {l′ : List ℤ} {m′ : List ℕ} → Way n t l m r l′ m′ → NotRefused r ↔ Accepting n t l m
       go (refused w h) = (λ k. absurd (k w refl), λ k. absurd (h k))
-      go (dead-end w h e) = (λ _. (w, h), λ _ x q. let z : _≡_ {A = ℕ} 0 1 = cc in omega arith)
-      go (settled w h u e) = (λ _. (w, h), λ _ x q. let z : _≡_ {A = ℕ} 0 1 = cc in omega arith)
+      go (dead-end a e) = (λ _. a, λ _ x q. let z : _≡_ {A = ℕ} 0 1 = cc in omega arith)
+      go (settled a u e) = (λ _. a, λ _ x q. let z : _≡_ {A = ℕ} 0 1 = cc in omega arith)
 
   -- 13 settled, 10 no layout; "Place and count are 0 where nothing else is said."
   pub settle-answers : NotRefused r → (settlingReceipt r ≡ receipt 13 0 0) ⊎ (settlingReceipt r ≡ receipt 10 0 0)
   settle-answers = go (way c)
     where
-      go : {r : Settling} {l′ : List ℤ} → Way n t l r l′ → NotRefused r → (settlingReceipt r ≡ receipt 13 0 0) ⊎ (settlingReceipt r ≡ receipt 10 0 0)
+      go : {r : Settling} {l′ : List ℤ} {m′ : List ℕ} → Way n t l m r l′ m′ → NotRefused r → (settlingReceipt r ≡ receipt 13 0 0) ⊎ (settlingReceipt r ≡ receipt 10 0 0)
       go (refused w h) k = absurd (k w refl)
-      go (dead-end w h e) k = inr refl
-      go (settled w h u e) k = inl refl
+      go (dead-end a e) k = inr refl
+      go (settled a u e) k = inl refl
+
+  -- "Tables: 1, 2, 3, 4, 5, then .. 14 (settle)"
+  pub settle-table-refused : (w : Refusal) → check n t ≡ Refused w → r ≡ settling.Refused w
+  unfolding settleCall
+  settle-table-refused w e = ap (λ (s : SettleCall). s .answer) (c .is) ∙ rw e
+
+  pub settle-state-short : WithinLimits n t → length l < n → r ≡ settling.Refused (refusal StateShort 0)
+  unfolding settleCall
+  settle-state-short w h =
+      let a : Accepted n t = accepted-exactly n t .1 w in
+      ap (λ (s : SettleCall). s .answer) (c .is) ∙ rw (a, lt-ltb (length l) n h)
+
+  -- A5: "Turned away: 19, reason list short, after 14"
+  pub settle-reasons-short : WithinLimits n t → n ≤ length l → length m < n → r ≡ settling.Refused (refusal ReasonsShort 0)
+  unfolding settleCall
+  settle-reasons-short w h k =
+      let a : Accepted n t = accepted-exactly n t .1 w in
+      ap (λ (s : SettleCall). s .answer) (c .is) ∙ rw (a, le-ltb (length l) n h, lt-ltb (length m) n k)
 
   -- demand 1: "a refused call changes no lent element"
-  pub settle-refused-unchanged : (w : Refusal) → r ≡ settling.Refused w → l′ ≡ l
+  pub settle-refused-unchanged : (w : Refusal) → r ≡ settling.Refused w → (l′ ≡ l) × (m′ ≡ m)
   settle-refused-unchanged w = go (way c)
     where
-      go : {r : Settling} {l′ : List ℤ} → Way n t l r l′ → r ≡ settling.Refused w → l′ ≡ l
-      go (refused x h) q = refl
-      go (dead-end x h e) q = absurd (let z : _≡_ {A = ℕ} 0 1 = cc in omega arith)
-      go (settled x h u e) q = absurd (let z : _≡_ {A = ℕ} 0 1 = cc in omega arith)
+      go : {r : Settling} {l′ : List ℤ} {m′ : List ℕ} → Way n t l m r l′ m′ → r ≡ settling.Refused w → (l′ ≡ l) × (m′ ≡ m)
+      go (refused x h) q = (refl, refl)
+      go (dead-end a e) q = absurd (let z : _≡_ {A = ℕ} 0 1 = cc in omega arith)
+      go (settled a u e) q = absurd (let z : _≡_ {A = ℕ} 0 1 = cc in omega arith)
 
   -- A2: 5 is for the first unknown placement, with its group; "for all other numbers it is 0"
   pub settle-names : Names (UnknownInTable n t) (settlingReceipt r)
   unfolding settleCall
-  settle-names = rw (ap (λ (s : SettleCall). s .answer) (c .is)) (check-names n t (λ k. settlingReceipt (settleChecked k n t l .answer)) (λ w. refl)
-      (cond-ind NamesAt _ _ (ltb (length l) n) (λ _. none-named 14 0 0 (λ e. omega arith)) (λ _. ended (settle n (clauses t) initial))))
+  settle-names = rw (ap (λ (s : SettleCall). s .answer) (c .is)) (check-names n t (λ k. settlingReceipt (settleChecked k n t l m .answer)) (λ w. refl)
+      (cond-ind NamesAt _ _ (ltb (length l) n) (λ _. none-named 14 0 0 (λ e. omega arith))
+      (λ _. cond-ind NamesAt _ _ (ltb (length m) n) (λ _. none-named 19 0 0 (λ e. omega arith)) (λ _. ended (settle n (clauses t) initial)))))
     where
       NamesAt : SettleCall → Type 0
       NamesAt s = Names (UnknownInTable n t) (settlingReceipt (s .answer))
 
-      ended : (o : Settled) → NamesAt (settledCall n o l)
-      ended dead = none-named 10 0 0 (λ e. omega arith)
-      ended (rest u) = none-named 13 0 0 (λ e. omega arith)
+      ended : (o : plain.Settled) → Names (UnknownInTable n t) (settlingReceipt (settlingOf o))
+      ended plain.dead = none-named 10 0 0 (λ e. omega arith)
+      ended (plain.rest u) = none-named 13 0 0 (λ e. omega arith)
 
   -- "Elements not named are never changed."
-  pub settle-rest-kept : drop n l′ ≡ drop n l
+  pub settle-rest-kept : (drop n l′ ≡ drop n l) × (drop n m′ ≡ drop n m)
   settle-rest-kept = go (way c)
     where
-      go : {r : Settling} {l′ : List ℤ} → Way n t l r l′ → drop n l′ ≡ drop n l
-      go (refused w h) = refl
-      go (dead-end w h e) = rest-of n (replicate n (posℤ 0)) l (length-replicate n (posℤ 0))
-      go (settled w h u e) = rest-of n (upTo (λ p. stateEntry (u p)) n) l (length-from (λ p. stateEntry (u p)) 1 n)
+      go : {r : Settling} {l′ : List ℤ} {m′ : List ℕ} → Way n t l m r l′ m′ → (drop n l′ ≡ drop n l) × (drop n m′ ≡ drop n m)
+      go (refused w h) = (refl, refl)
+      go (dead-end a e) = (rest-of n (replicate n (posℤ 0)) l (length-replicate n (posℤ 0)), rest-of n (replicate n 0) m (length-replicate {A = ℕ} n 0))
+      go (settled a u e) = (rest-of n (upTo (λ p. stateEntry (u .state p)) n) l (length-from (λ p. stateEntry (u .state p)) 1 n), rest-of n (upTo (u .reasons) n) m (length-from (u .reasons) 1 n))
 
-  -- "On a dead end they become 0."
-  pub dead-end-zeros : numberOf r ≡ 10 → take n l′ ≡ replicate n (posℤ 0)
+  -- "On a dead end they become 0."; A5: "all 0 on a dead end"
+  pub dead-end-zeros : numberOf r ≡ 10 → (take n l′ ≡ replicate n (posℤ 0)) × (take n m′ ≡ replicate n 0)
   dead-end-zeros = go (way c)
     where
-      go : {r : Settling} {l′ : List ℤ} → Way n t l r l′ → numberOf r ≡ 10 → take n l′ ≡ replicate n (posℤ 0)
+      go : {r : Settling} {l′ : List ℤ} {m′ : List ℕ} → Way n t l m r l′ m′ → numberOf r ≡ 10 → (take n l′ ≡ replicate n (posℤ 0)) × (take n m′ ≡ replicate n 0)
       go (refused w h) q = absurd (not-refused (w .fault) 10 refl q)
-      go (dead-end w h e) q = take-at (replicate n (posℤ 0)) (drop n l) n (length-replicate n (posℤ 0))
-      go (settled w h u e) q = absurd (omega arith)
+      go (dead-end a e) q = (first-of n l (posℤ 0), first-of n m 0)
+      go (settled a u e) q = absurd (omega arith)
 
   -- 10: there is no layout
   pub dead-end-no-layout : numberOf r ≡ 10 → (f : Choice) → ¬ Solution n (clauses t) f
   dead-end-no-layout = go (way c)
     where
-      go : {r : Settling} {l′ : List ℤ} → Way n t l r l′ → numberOf r ≡ 10 → (f : Choice) → ¬ Solution n (clauses t) f
+      go : {r : Settling} {l′ : List ℤ} {m′ : List ℕ} → Way n t l m r l′ m′ → numberOf r ≡ 10 → (f : Choice) → ¬ Solution n (clauses t) f
       go (refused w h) q = absurd (not-refused (w .fault) 10 refl q)
-      go (dead-end w h e) q = dead-end-none (within w) e
-      go (settled w h u e) q = absurd (omega arith)
+      go (dead-end a e) q = dead-end-none (within-of (a .within)) (forgotten n t e)
+      go (settled a u e) q = absurd (omega arith)
 
   -- 13: a choice is a layout exactly when it agrees with the list and meets the groups as they stand by it: "Simplifying never gains or loses a choice."
   pub settled-exactly : numberOf r ≡ 13 → (f : Choice) → Solution n (clauses t) f ↔ Remains n (clauses t) (stateIn n l′) f
   settled-exactly = go (way c)
     where
-      go : {r : Settling} {l′ : List ℤ} → Way n t l r l′ → numberOf r ≡ 13 → (f : Choice) → Solution n (clauses t) f ↔ Remains n (clauses t) (stateIn n l′) f
+      go : {r : Settling} {l′ : List ℤ} {m′ : List ℕ} → Way n t l m r l′ m′ → numberOf r ≡ 13 → (f : Choice) → Solution n (clauses t) f ↔ Remains n (clauses t) (stateIn n l′) f
       go (refused w h) q = absurd (not-refused (w .fault) 13 refl q)
-      go (dead-end w h e) q = absurd (omega arith)
-      go (settled w h u e) q = rw (list-read (w .variables) (settled-well (within w) u e) l) (settled-remains (within w) u e)
+      go (dead-end a e) q = absurd (omega arith)
+      go (settled a u e) q =
+          let w = within-of (a .within) in
+          rw (list-read (a .within .variables) (settled-well w (u .state) (forgotten n t e)) l) (settled-remains w (u .state) (forgotten n t e))
+
+  -- A5, which rule settled it ---------------------------------------------------------------------------------------
+
+  -- without the reasons it is settling as it was: the same number, and the same list
+  pub settle-as-before : NotRefused r → (r ≡ settlingOf (settle n (clauses t) initial)) × (l′ ≡ over n (stateList n (settle n (clauses t) initial)) l)
+  settle-as-before = go (way c)
+    where
+      go : {r : Settling} {l′ : List ℤ} {m′ : List ℕ} → Way n t l m r l′ m′ → NotRefused r →
+          (r ≡ settlingOf (settle n (clauses t) initial)) × (l′ ≡ over n (stateList n (settle n (clauses t) initial)) l)
+      go (refused w h) k = absurd (k w refl)
+      go (dead-end a e) k = rw (forgotten n t e) (refl, refl)
+      go (settled a u e) k = rw (forgotten n t e) (refl, refl)
+
+  -- what the reasons are: those of settling's own steps
+  pub settle-reasons : NotRefused r → m′ ≡ over n (reasonList n (settling-of n t)) m
+  settle-reasons = go (way c)
+    where
+      go : {r : Settling} {l′ : List ℤ} {m′ : List ℕ} → Way n t l m r l′ m′ → NotRefused r → m′ ≡ over n (reasonList n (settling-of n t)) m
+      go (refused w h) k = absurd (k w refl)
+      go (dead-end a e) k = rw e
+      go (settled a u e) k = rw e
+
+  module _ (done : numberOf r ≡ 13) where
+    abbrev e : End n t l′ m′
+    e = end (way c) done
+
+    within : Within n (clauses t)
+    within = within-of (e .limits)
+
+    module _ (i : ℕ) (h : i < n) where
+      -- "it is 0 while open", and nowhere else: Settle has no splits
+      pub settle-reason-open : (getD m′ i 0 ≡ 0) ↔ (getD l′ i (posℤ 0) ≡ posℤ (suc i))
+      settle-reason-open =
+          let low = settled-well within (e .state .state) (forgotten n t (e .is)) .low (suc i) in
+          let few = e .limits .variables in
+          let o = entry-open (e .state .state (suc i)) i (omega arith) (omega arith) in
+          let z = reason-open within (suc n) (e .state) (e .is) (suc i) in (
+            λ q. e .entry i h ∙ o .1 (z .0 (sym (e .reason i h) ∙ q)),
+            λ q. e .reason i h ∙ z .1 (o .0 (sym (e .entry i h) ∙ q)),
+          )
+
+      -- else it is "the number of the group that settled or tied it, for rules 7 and 8 the later of the two", and that group holds the placement, or one tied to it
+      pub settle-reason-named : getD m′ i 0 ≢ 0 → SettledBy (clauses t) (suc i) (getD m′ i 0)
+      settle-reason-named k = rw (e .reason i h) (reason-named within (suc n) (e .state) (e .is) (suc i) (λ z. k (e .reason i h ∙ z)))
+
+      -- between 1 and the number of groups
+      pub settle-reason-between : getD m′ i 0 ≢ 0 → (1 ≤ getD m′ i 0) × (getD m′ i 0 ≤ zeros t)
+      settle-reason-between k =
+          let g = settle-reason-named k .holder in
+          (g .from-one, omega (arith, g .is-clause, clauses-zeros t))
+
+      -- a reason once given stays, whatever is settled or tied later
+      pub settle-reason-stays : (k : ℕ) (u : Explained) → propagateBy k (clauses t) (unexplained initial) ≡ rest u → u .reasons (suc i) ≢ 0 → getD m′ i 0 ≡ u .reasons (suc i)
+      settle-reason-stays k u q z = e .reason i h ∙ reason-kept within k u (e .state) q (e .is) (suc i) z

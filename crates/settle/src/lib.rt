@@ -1,4 +1,4 @@
-// Settle: what settling knows of each placement of a table.
+// Settle: what settling knows of each placement of a table, and which group settled or tied it.
 ghost use mathlib.Core.Path.{_≡_};
 ghost use Prim.Native.Nat.{_≤_};
 ghost use lib.ListN.{length};
@@ -6,6 +6,7 @@ ghost use Rattle.general.specs.Lists.{upTo};
 ghost use Rattle.literal.specs.Literal.{var, maxVariables};
 ghost use Rattle.theory.specs.Calls.{over, stateEntry, settleCall};
 ghost use Rattle.state.specs.State.{stateOf, InRange};
+ghost use Rattle.propagate.specs.Code.{reasonsOf};
 ghost use Rattle.settle.specs.Settle.{called};
 use literal::Literal;
 use literal::Variable;
@@ -46,8 +47,19 @@ fn write_state(list: &mut [i16], n: usize, values: &[u16; Literal::VARIABLES])
     }
 }
 
-pub fn settle(table: &[i16], n: usize, list: &mut [i16]) -> Settling
-    ensures { λ r. ⌜ called r (now (list .exit)) ≡ settleCall n (now (table .entry)) (now (list .entry)) ⌝ }
+// The clause that settled or tied each placement from 1 to n, 0 where none did.
+fn write_reasons(lent: &mut [u16], n: usize, reasons: &[u16; Literal::VARIABLES])
+    requires { ⌜ n ≤ length (now lent) ⌝ }
+    requires { ⌜ n ≤ maxVariables ⌝ }
+    ensures { λ _. ⌜ now (lent .exit) ≡ over n (upTo (reasonsOf (now (reasons .entry))) n) (now (lent .entry)) ⌝ }
+{
+    for i in 0..n {
+        lent[i] = reasons[i + 1];
+    }
+}
+
+pub fn settle(table: &[i16], n: usize, list: &mut [i16], reasons: &mut [u16]) -> Settling
+    ensures { λ r. ⌜ called r (now (list .exit)) (now (reasons .exit)) ≡ settleCall n (now (table .entry)) (now (list .entry)) (now (reasons .entry)) ⌝ }
 {
     let checked = table::check_table(table, n);
     match checked {
@@ -59,12 +71,18 @@ pub fn settle(table: &[i16], n: usize, list: &mut [i16]) -> Settling
     if list.len() < n {
         return Settling::Refused(Refusal::new(Fault::StateShort, 0));
     }
+    if reasons.len() < n {
+        return Settling::Refused(Refusal::new(Fault::ReasonsShort, 0));
+    }
     let settled = propagate::propagate(table, n, state::initial());
     if settled.dead {
         fill::clear_numbers(list, n);
+        fill::clear_reasons(reasons, n);
         return Settling::NoLayout;
     }
     let state = settled.state;
     write_state(list, n, &state.values);
+    let given = settled.reasons;
+    write_reasons(reasons, n, &given);
     Settling::Settled
 }

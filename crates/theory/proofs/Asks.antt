@@ -4,10 +4,10 @@ use mathlib.Core.Bool.{true, false, not, _&&_}
 use mathlib.Core.Logic.{_⊎_, inl, inr, _≢_, ⊎-elim}
 use mathlib.Core.Option.{Option, none, some, Option·map, Option·none-ne-some, Option·some-injective as some-injective}
 use mathlib.Core.List.{List, [], _∷_, map, List·Memᴰ, List·Memᴰ·head, List·Memᴰ·tail, List·Memᴰ·not-nil, List·Memᴰ·cases-cons}
-use Prim.Native.Nat.{ℕ, suc, _+_, _<_, _≤_}
+use Prim.Native.Nat.{ℕ, suc, _+_, _-_, _<_, _≤_}
 use native.Mathlib.Omega.{arith}
 use lib.Dec.{eqb, leb, ltb}
-use lib.ListN.{length}
+use lib.ListN.{length, getD}
 use borrow.Author.Tests.{eqb-true, eqb-false, leb-true, ltb-true, ltb-false, not-true}
 use Rattle.general.specs.Booleans.{bool-cases, and-true, or-true}
 use Rattle.general.specs.Lists.{Before, here, later, before-left}
@@ -23,7 +23,9 @@ use Rattle.theory.specs.declared.Step.the-variants.{DeadEnd, Becomes}
 use Rattle.theory.specs.Rules.{occurs, stands, noneTrue, differ, complementary, other, isNone, partner, pairIn, live, tie, rule1, rule2, rule3, rule4, rule5, rule6, rule7, rule8}
 use Rattle.theory.specs.declared.Asked.{Asked}
 use Rattle.theory.specs.Propagation.{firstClause, firstPair, ask, step}
-use Rattle.theory.proofs.States.{Fixed, Valid, value-fixed, value-low, well-based, base-true, base-false}
+use Rattle.theory.specs.Reasons.{Holds}
+use Rattle.theory.proofs.Literals.{var-opposite}
+use Rattle.theory.proofs.States.{Fixed, Valid, value-variable, value-fixed, value-low, well-based, base-true, base-false}
 use Rattle.theory.proofs.Ties.{Ties, ties-higher, ties-turned}
 use Rattle.theory.proofs.Clauses.{standing-mem, occurs-mem, stands-mem}
 use Rattle.theory.proofs.Closed.{NoFalse, Quiet, open-of, not-true-of}
@@ -226,15 +228,30 @@ module _ (g h : Clause) (f : NoFalse g) where
       (λ z t k. crossed (b .0) (m .0) (x .0) (stands-mem h (opposite (b .0)) (p .0)) (y .0) (stands-mem h (opposite (m .0)) (q .0))
       (live-open (w .0) (b .0) (x .0)) (live-open (w .0) (m .0) (y .0)) k))
 
--- the first clause, or the first pair, is one of the formula's
+-- a clause of a list in which the first has number k, and its number j
+pub record Numbered {A : Type 0} (k : ℕ) (f : List A) (c : A) (j : ℕ) : Type 0 where
+  pub index : ℕ
+  pub inside : index < length f
+  pub here : (d : A) → getD f index d ≡ c
+  pub number : j ≡ k + index
+
+numbered-first : {A : Type 0} {k : ℕ} {c : A} {f : List A} {j : ℕ} → k ≡ j → Numbered k (c ∷ f) c j
+numbered-first e = record { index = 0; inside = omega arith; here = λ d. refl; number = omega arith }
+
+numbered-later : {A : Type 0} {k : ℕ} {c b : A} {f : List A} {j : ℕ} → Numbered (suc k) f c j → Numbered k (b ∷ f) c j
+numbered-later m = record { index = suc (m .index); inside = omega (arith, m .inside); here = m .here; number = omega (arith, m .number) }
+
+-- the first clause, or the first pair, is one of the formula's; the number is that of the clause, of a pair that of the later one
 module _ {A : Type 0} (look : A → Clause) where
   clause-some : (rule : Clause → Option Step) (k : ℕ) (f : List A) (a : Asked) → firstClause rule k (map look f) ≡ some a →
-      (c : A) × List·Memᴰ c f × (rule (look c) ≡ some (a .step))
+      (c : A) × List·Memᴰ c f × Numbered k f c (a .clause .0) × (rule (look c) ≡ some (a .step))
   unfolding firstClause
   clause-some rule k [] a e = absurd (Option·none-ne-some a e)
   clause-some rule k (c ∷ f) a e = ⊎-elim
-      (λ h. let m = map-some _ (rule (look c)) a h in (c, List·Memᴰ·head refl, m .1 ∙ ap some (ap (λ (b : Asked). b .step) (m .2))))
-      (λ h. let w = clause-some rule (suc k) f a h in (w .0, List·Memᴰ·tail (w .1), w .2))
+      (λ h.
+      let m = map-some _ (rule (look c)) a h in
+      (c, List·Memᴰ·head refl, numbered-first (ap (λ (b : Asked). b .clause .0) (m .2)), m .1 ∙ ap some (ap (λ (b : Asked). b .step) (m .2))))
+      (λ h. let w = clause-some rule (suc k) f a h in (w .0, List·Memᴰ·tail (w .1), numbered-later (w .2), w .3))
       (orElse-some _ (firstClause rule (suc k) (map look f)) a e)
 
   pub clause-none : (rule : Clause → Option Step) (k : ℕ) {c : A} (f : List A) → firstClause rule k (map look f) ≡ none → List·Memᴰ c f → rule (look c) ≡ none
@@ -245,12 +262,12 @@ module _ {A : Type 0} (look : A → Clause) where
       ⊎-elim (λ (q : c ≡ d). rw q (map-none _ (rule (look d)) (w .0))) (clause-none rule (suc k) f (w .1)) (List·Memᴰ·cases-cons m)
 
   pair-some : (rule : Clause → Clause → Option Step) (k : ℕ) (f : List A) (a : Asked) → firstPair rule k (map look f) ≡ some a →
-      (g : A) × (h : A) × Before g h f × (rule (look g) (look h) ≡ some (a .step))
+      (g : A) × (h : A) × Before g h f × Numbered k f h (a .clause .0) × (rule (look g) (look h) ≡ some (a .step))
   unfolding firstPair
   pair-some rule k [] a e = absurd (Option·none-ne-some a e)
   pair-some rule k (c ∷ f) a e = ⊎-elim
-      (λ h. let w = clause-some (rule (look c)) (suc k) f a h in (c, w .0, here (w .1), w .2))
-      (λ h. let w = pair-some rule (suc k) f a h in (w .0, w .1, later (w .2), w .3))
+      (λ h. let w = clause-some (rule (look c)) (suc k) f a h in (c, w .0, here (w .1), numbered-later (w .2), w .3))
+      (λ h. let w = pair-some rule (suc k) f a h in (w .0, w .1, later (w .2), numbered-later (w .3), w .4))
       (orElse-some (firstClause (rule (look c)) (suc k) (map look f)) (firstPair rule (suc k) (map look f)) a e)
 
   pub pair-none : (rule : Clause → Clause → Option Step) (k : ℕ) {g h : A} {f : List A} → firstPair rule k (map look f) ≡ none → Before g h f → rule (look g) (look h) ≡ none
@@ -260,28 +277,22 @@ module _ {A : Type 0} (look : A → Clause) where
   pair-none rule k e (later {z = z} {l = f} b) =
       pair-none rule (suc k) (orElse-none (firstClause (rule (look z)) (suc k) (map look f)) (firstPair rule (suc k) (map look f)) e .1) b
 
--- the step of the fixed order is asked
-module _ (f : Formula) (s : State) (a : Asked) where
+-- the step of the fixed order is asked by one clause, or by two
+module _ (f : Formula) (s : State) (a : Asked) {P : Type 0}
+    (one : (c : Clause) → List·Memᴰ c f → Numbered 1 f c (a .clause .0) → One (standing s c) (a .step) → P)
+    (two : (g h : Clause) → Before g h f → Numbered 1 f h (a .clause .0) → Two (standing s g) (standing s h) (a .step) → P) where
   from-one : (rule : Clause → Option Step) → ((c : Clause) → rule (standing s c) ≡ some (a .step) → One (standing s c) (a .step)) →
-      firstClause rule 1 (map (standing s) f) ≡ some a → Allowed f s (a .step)
-  from-one rule ok e = let w = clause-some (standing s) rule 1 f a e in lift (a .step) (w .0) (w .1) (ok (w .0) (w .2))
-    where
-      lift : (t : Step) (c : Clause) → List·Memᴰ c f → One (standing s c) t → Allowed f s t
-      lift DeadEnd c m h = record { clause = c; member = m; dead-end = h }
-      lift (Becomes x t) c m h = by-one c m h
+      firstClause rule 1 (map (standing s) f) ≡ some a → P
+  from-one rule ok e = let w = clause-some (standing s) rule 1 f a e in one (w .0) (w .1) (w .2) (ok (w .0) (w .3))
 
   from-two : (rule : Clause → Clause → Option Step) →
       ((g h : Clause) → rule (standing s g) (standing s h) ≡ some (a .step) → Two (standing s g) (standing s h) (a .step)) →
-      firstPair rule 1 (map (standing s) f) ≡ some a → Allowed f s (a .step)
-  from-two rule ok e = let w = pair-some (standing s) rule 1 f a e in lift (a .step) (w .0) (w .1) (w .2) (ok (w .0) (w .1) (w .3))
-    where
-      lift : (t : Step) (g h : Clause) → Before g h f → Two (standing s g) (standing s h) t → Allowed f s t
-      lift DeadEnd g h b k = absurd k
-      lift (Becomes x t) g h b k = by-two g h b k
+      firstPair rule 1 (map (standing s) f) ≡ some a → P
+  from-two rule ok e = let w = pair-some (standing s) rule 1 f a e in two (w .0) (w .1) (w .2) (w .3) (ok (w .0) (w .1) (w .4))
 
-  pub step-allowed : step f s ≡ some a → Allowed f s (a .step)
+  step-cases : step f s ≡ some a → P
   unfolding ask
-  step-allowed e =
+  step-cases e =
       ⊎-elim (from-one rule1 (λ c. rule1-one (standing s c) (false-free c) (a .step)))
       (λ e. ⊎-elim (from-one rule2 (λ c. rule2-one (standing s c) (false-free c) (a .step)))
       (λ e. ⊎-elim (from-one rule3 (λ c. rule3-one (standing s c) (a .step)))
@@ -294,6 +305,58 @@ module _ (f : Formula) (s : State) (a : Asked) where
     where
       false-free : (c : Clause) → NoFalse (standing s c)
       false-free c = standing-no-false s c
+
+-- so some rule allows it
+pub step-allowed : (f : Formula) (s : State) (a : Asked) → step f s ≡ some a → Allowed f s (a .step)
+step-allowed f s a = step-cases f s a (λ c m k. by-clause (a .step) c m) (λ g h b k. by-pair (a .step) g h b)
+  where
+    by-clause : (t : Step) (c : Clause) → List·Memᴰ c f → One (standing s c) t → Allowed f s t
+    by-clause DeadEnd c m h = record { clause = c; member = m; dead-end = h }
+    by-clause (Becomes x t) c m h = by-one c m h
+
+    by-pair : (t : Step) (g h : Clause) → Before g h f → Two (standing s g) (standing s h) t → Allowed f s t
+    by-pair DeadEnd g h b k = absurd k
+    by-pair (Becomes x t) g h b k = by-two g h b k
+
+-- a literal of variable p stands in a clause
+abbrev Stood : ℕ → Clause → Type 0
+Stood p c = (y : Literal) × List·Memᴰ y c × (var y ≡ p)
+
+one-holds : {c : Clause} {x t : Literal} → AsksOne c x t → Stood (var x) c
+one-holds (one-true {x = x} a m o) = (x, m, refl)
+one-holds (only-one {x = x} e o) = (x, rw e (List·Memᴰ·head refl), refl)
+one-holds {c} (stands-twice {x = x} h o) = (x, occurs-mem c x (omega arith), refl)
+one-holds (opposites {x = x} y a b m o d) = (x, m, refl)
+one-holds (only-two {x = x} y z e oy oz k) = ⊎-elim
+    (λ (q : var x ≡ var y). (y, rw e (List·Memᴰ·head refl), sym q))
+    (λ (q : var x ≡ var z). (z, rw e (List·Memᴰ·tail (List·Memᴰ·head refl)), sym q))
+    (k .one-of)
+
+two-holds : {g h : Clause} {x t : Literal} → AsksTwo g h x t → Stood (var x) h
+two-holds (common {x = x} y xg xh yg yh o d) = (x, xh, refl)
+two-holds (crossed {x = x} y z yg yh zg zh oy oz k) = ⊎-elim
+    (λ (q : var x ≡ var y). (opposite y, yh, var-opposite y ∙ sym q))
+    (λ (q : var x ≡ var z). (opposite z, zh, var-opposite z ∙ sym q))
+    (k .one-of)
+
+-- and the clause that asks it, of a pair the later one, holds the variable that it settles or ties, or one that is tied to it
+pub step-holds : (f : Formula) (s : State) (a : Asked) {x t : Literal} → step f s ≡ some a → a .step ≡ Becomes x t → Holds f s (a .clause .0) (var x)
+step-holds f s a {x} {t} asked e = step-cases f s a
+    (λ c m k h. let o : AsksOne (standing s c) x t = rw e at h in stems c k (one-holds o))
+    (λ g c b k h. let o : AsksTwo (standing s g) (standing s c) x t = rw e at h in stems c k (two-holds o))
+    asked
+  where
+    stems : (c : Clause) → Numbered 1 f c (a .clause .0) → Stood (var x) (standing s c) → Holds f s (a .clause .0) (var x)
+    stems c k w =
+        let l = standing-mem s c (w .0) (w .1) in
+        let at : a .clause .0 - 1 ≡ k .index = omega (arith, k .number) in
+        record {
+          from-one = omega (arith, k .number);
+          is-clause = omega (arith, k .number, k .inside);
+          entry = l .written;
+          in-clause = rw (at, k .here []) (l .member);
+          tied = sym (value-variable s (l .written)) ∙ ap var (l .valued) ∙ w .2;
+        }
 
 -- where the fixed order asks nothing, no rule fits
 pub record Rests (f : Formula) (s : State) : Type 0 where

@@ -26,6 +26,9 @@ pub mod ByCount
 pub mod Leaves
 pub mod Branching
 pub mod Splits
+pub mod Forgetting
+pub mod Reasons
+pub mod SplitReasons
 pub mod AtRest
 pub mod Guard
 pub mod Tables

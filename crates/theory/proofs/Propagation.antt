@@ -1,20 +1,17 @@
--- Propagation ends, its end does not depend on the fuel, and it does not depend on the order of steps.
-use mathlib.Core.Path.{_≡_, refl, ap, sym, _∙_}
-use mathlib.Core.Logic.{_⊎_, inl, inr, ⊎-elim}
+-- Propagation ends, and its end does not depend on the order of steps.
+use mathlib.Core.Path.{_≡_, refl, ap}
 use mathlib.Core.Option.{Option, none, some}
 use Prim.Native.Nat.{ℕ, zero, suc, _+_, _<_, _≤_}
 use native.Mathlib.Omega.{arith}
 use native.Mathlib.Nat.{le-refl}
 use Rattle.literal.specs.declared.Literal.{Literal}
-use Rattle.literal.specs.declared.Literal.the-variants.{Pos}
-use Rattle.literal.specs.Literal.{var}
 use Rattle.theory.specs.Formula.{Formula, Within}
 use Rattle.theory.specs.State.{State, initial, assign, opens, WellFormed}
 use Rattle.theory.specs.declared.Step.{Step}
 use Rattle.theory.specs.declared.Step.the-variants.{DeadEnd, Becomes}
 use Rattle.theory.specs.declared.Asked.{Asked}
 use Rattle.theory.specs.Propagation.{step, Settled, dead, rest, act, follow, propagate}
-use Rattle.theory.proofs.States.{Based, well-based, Valid, assign-well, Refines, refines-refl, refines-trans, refines-assign, assign-refines, refines-antisym, opens-assign}
+use Rattle.theory.proofs.States.{Based, well-based, assign-well, Refines, refines-refl, refines-trans, refines-assign, assign-refines, refines-antisym, opens-assign}
 use Rattle.theory.proofs.Asks.{Asks, Dies, Allowed, valid-step, open-step, step-allowed, step-rests}
 use Rattle.theory.proofs.Forced.{forced, no-dead-end}
 
@@ -78,23 +75,6 @@ module _ {n : ℕ} {f : Formula} (within : Within n f) where
 
       go : (o : Option Asked) → step f s ≡ o → ((u : State) → WellFormed n u → opens u n < k → Ends n f u (propagate k f u)) → Ends n f s (follow (propagate k f) s o)
       go none e ih = record { well = w; rests = e; refines = refines-refl w; coarsest = λ v k q. q; fewer = le-refl _ }
-      go (some b) e ih = acts (b .step) (step-allowed f s b e) ih
-
-  -- all fuel that is enough gives the same end
-  pub propagate-fuel : (k j : ℕ) (s : State) → WellFormed n s → opens s n < k → opens s n < j → propagate k f s ≡ propagate j f s
-  unfolding propagate
-  propagate-fuel zero j s w h i = absurd (omega arith)
-  propagate-fuel (suc k) zero s w h i = absurd (omega arith)
-  propagate-fuel (suc k) (suc j) s w h i = go (step f s) refl (propagate-fuel k j)
-    where
-      acts : (t : Step) → Allowed f s t → ((u : State) → WellFormed n u → opens u n < k → opens u n < j → propagate k f u ≡ propagate j f u) →
-          act (propagate k f) s t ≡ act (propagate j f) s t
-      acts DeadEnd d ih = refl
-      acts (Becomes x t) a ih = ih (assign x t s) (asked-well w a) (omega (arith, asked-closes w a)) (omega (arith, asked-closes w a))
-
-      go : (o : Option Asked) → step f s ≡ o → ((u : State) → WellFormed n u → opens u n < k → opens u n < j → propagate k f u ≡ propagate j f u) →
-          follow (propagate k f) s o ≡ follow (propagate j f) s o
-      go none e ih = refl
       go (some b) e ih = acts (b .step) (step-allowed f s b e) ih
 
 -- In any order ---------------------------------------------------------------------------------------------------

@@ -29,18 +29,22 @@ told-entry (Neg zero) h = refl
 told-entry (Pos (suc r)) h = rw (ne-eqb (suc r) decided (λ e. omega arith))
 told-entry (Neg (suc r)) h = rw (ne-eqb (suc r) decided (λ e. omega arith))
 
+-- +p says that placement p is open, and nothing else does
+pub entry-open : (x : Literal) (i : ℕ) → var x ≤ maxVariables → i < maxVariables → (stateEntry x ≡ posℤ (suc i)) ↔ (x ≡ Pos (suc i))
+entry-open x i h k =
+    let plain : told (posℤ (suc i)) ≡ Pos (suc i) = rw (ne-eqb (suc i) decided (λ e. omega arith)) in
+    (λ e. sym (told-entry x h) ∙ ap told e ∙ plain, ap stateEntry)
+
+-- the element of a written list at an index below n
+pub written-at : {A : Type 0} (g : ℕ → A) (n : ℕ) (l : List A) (i : ℕ) (d : A) → i < n → getD (over n (upTo g n) l) i d ≡ g (suc i)
+written-at g n l i d h = List·getD-append (upTo g n) (drop n l) d i (omega (arith, length-from g 1 n)) ∙ getD-from g 1 n i d h ∙ ap g (omega arith)
+
 module _ {n : ℕ} {s : State} (few : n ≤ maxVariables) (w : WellFormed n s) (l : List ℤ) where
   abbrev entry : ℕ → ℤ
   entry p = stateEntry (s p)
 
   abbrev list : List ℤ
   list = over n (upTo entry n) l
-
-  entry-at : (i : ℕ) → i < n → getD list i (posℤ 0) ≡ entry (suc i)
-  entry-at i h =
-      List·getD-append (upTo entry n) (drop n l) (posℤ 0) i (omega (arith, length-from entry 1 n))
-      ∙ getD-from entry 1 n i (posℤ 0) h
-      ∙ ap entry (omega arith)
 
   -- nothing is lost in writing
   pub list-read : stateIn n list ≡ s
@@ -50,7 +54,7 @@ module _ {n : ℕ} {s : State} (few : n ≤ maxVariables) (w : WellFormed n s) (
       at : (p : ℕ) → stateIn n list p ≡ s p
       at zero = sym (well-based w .base)
       at (suc i) = elim (decLt i n) [
-        | yes h ↦ rw (lt-ltb i n h, entry-at i h) (told-entry (s (suc i)) (omega (arith, w .low (suc i))))
+        | yes h ↦ rw (lt-ltb i n h, written-at entry n l i (posℤ 0) h) (told-entry (s (suc i)) (omega (arith, w .low (suc i))))
         | no h ↦ rw (le-ltb i n (omega arith)) (sym (w .beyond (suc i) (omega arith)))
       ]
 

@@ -1,7 +1,7 @@
 -- States as substitutions: what a state says after a step, and when one state refines another.
 use mathlib.Core.Path.{_≡_, refl, ap, sym, _∙_, fun-ext}
 use mathlib.Core.Bool.{Bool, true, false}
-use mathlib.Core.Logic.{_⊎_, _≢_, ⊎-elim}
+use mathlib.Core.Logic.{_≢_, ⊎-elim}
 use Prim.Native.Nat.{ℕ, zero, suc, _+_, _<_, _≤_}
 use native.Mathlib.Omega.{arith}
 use native.Mathlib.Decide.{ℕ-discrete}
@@ -195,13 +195,14 @@ opens-bound s (suc n) = go (isRoot s (suc n)) (opens-bound s n)
     go false h = omega arith
 
 module _ {n : ℕ} {s : State} {x t : Literal} (w : WellFormed n s) (v : Valid n s x t) where
-  assign-other : (p : ℕ) → p ≢ var x → isRoot (assign x t s) p ≡ isRoot s p
+  -- no other variable is opened or closed
+  pub assign-other : (p : ℕ) → p ≢ var x → isRoot (assign x t s) p ≡ isRoot s p
   assign-other p h = ⊎-elim
       (λ (e : s p ≡ Pos p). rw (e, replace-other x t (Pos p) h))
       (λ (e : s p ≢ Pos p). same-ne _ _ (λ q. e (refines-root w (assign-well w v) (refines-assign x t w) p q)) ∙ sym (same-ne _ _ e))
       (literal-cases (s p) (Pos p))
 
-  assign-self : isRoot (assign x t s) (var x) ≡ false
+  pub assign-self : isRoot (assign x t s) (var x) ≡ false
   assign-self = same-ne (assign x t s (var x)) (Pos (var x)) (λ e. omega (arith, ap var e, lowered (s (var x)) (fixed-pos s x (v .fixed-x))))
     where
       lowered : (l : Literal) → l ≡ Pos (var x) → var (replace x t l) < var x
@@ -236,7 +237,8 @@ module _ {n : ℕ} {s : State} (w : WellFormed n s) where
   constant-fixed (Neg p) z = rw z (base-false (well-based w))
 
   -- an open variable becomes a constant
+  pub side-valid : {p : ℕ} → Open n s p → (t : Literal) → var t ≡ 0 → Valid n s (Pos p) t
+  side-valid o t z = record { fixed-x = o .root; fixed-t = constant-fixed t z; lower = omega (arith, o .positive); inside = o .inside }
+
   pub side : {p : ℕ} → Open n s p → (t : Literal) → var t ≡ 0 → Side n s (assign (Pos p) t s)
-  side {p} o t z =
-      let v : Valid n s (Pos p) t = record { fixed-x = o .root; fixed-t = constant-fixed t z; lower = omega (arith, o .positive); inside = o .inside } in
-      record { well = assign-well w v; closes = opens-assign w v n (o .positive) (o .inside) }
+  side o t z = let v = side-valid o t z in record { well = assign-well w v; closes = opens-assign w v n (o .positive) (o .inside) }

@@ -1,7 +1,7 @@
 -- A tie: of two literals exactly one is true, so one of them becomes the opposite of the other.
-use mathlib.Core.Path.{_≡_, ap, sym, _∙_}
+use mathlib.Core.Path.{_≡_, refl, ap, sym, _∙_}
 use mathlib.Core.Bool.{cond}
-use mathlib.Core.Logic.{_≢_}
+use mathlib.Core.Logic.{_⊎_, inl, inr, _≢_, ⊎-elim}
 use Prim.Native.Nat.{ℕ, _+_, _<_, _≤_}
 use native.Mathlib.Omega.{arith}
 use native.Mathlib.Decide.{decLe}
@@ -19,6 +19,7 @@ pub record Ties (y z x t : Literal) : Type 0 where
   -- a state in which they are opposites takes both sides of the step for the same
   pub alike : (u : State) → value u z ≡ opposite (value u y) → value u x ≡ value u t
   pub apart : var y ≢ var z
+  pub one-of : (var x ≡ var y) ⊎ (var x ≡ var z)
   pub valid : (n : ℕ) (s : State) → Fixed s y → Fixed s z → var y ≤ n → var z ≤ n → Valid n s x t
 
 -- "tie the higher placement to the lower"
@@ -26,6 +27,7 @@ pub ties-higher : (y z : Literal) → var y < var z → Ties y z z (opposite y)
 ties-higher y z l = record {
   alike = λ u q. q ∙ sym (value-opposite u y);
   apart = λ e. omega arith;
+  one-of = inr refl;
   valid = λ n s fy fz iy iz. record { fixed-x = fz; fixed-t = fixed-opposite s y fy; lower = omega (arith, var-opposite y); inside = iz };
 }
 
@@ -35,6 +37,7 @@ module _ {y z x t : Literal} (k : Ties y z x t) where
   ties-turned = record {
     alike = λ u q. k .alike u (sym (opposite-opposite (value u z)) ∙ ap opposite (sym q));
     apart = λ e. k .apart (sym e);
+    one-of = ⊎-elim inr inl (k .one-of);
     valid = λ n s fz fy iz iy. k .valid n s fy fz iy iz;
   }
 
@@ -42,6 +45,7 @@ module _ {y z x t : Literal} (k : Ties y z x t) where
   ties-opposite = record {
     alike = λ u q. k .alike u (sym (opposite-opposite (value u z)) ∙ ap opposite (sym (value-opposite u z) ∙ q ∙ ap opposite (value-opposite u y) ∙ opposite-opposite (value u y)));
     apart = λ e. k .apart (sym (var-opposite y) ∙ e ∙ var-opposite z);
+    one-of = ⊎-elim (λ e. inl (e ∙ sym (var-opposite y))) (λ e. inr (e ∙ sym (var-opposite z))) (k .one-of);
     valid = λ n s fy fz iy iz. k .valid n s (unturned s y fy) (unturned s z fz) (rw (var-opposite y) at iy) (rw (var-opposite z) at iz);
   }
     where

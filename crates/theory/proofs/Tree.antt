@@ -24,6 +24,28 @@ module _ {S A : Type 0} (walk : ℕ → S → Run A) (s : S) where
   tried-splits m h zero = omega arith
   tried-splits m h (suc k) = h (suc k)
 
+-- a tree over states that look like others, and are decided as those are, is the tree over those
+module _ {S T A : Type 0} (look : T → S) where
+  abbrev pub seen : Decision T A → Decision S A
+  seen dead = dead
+  seen (done a) = done a
+  seen (branch p l r) = branch p (look l) (look r)
+
+  module _ (decide : S → Decision S A) (decide′ : T → Decision T A) (alike : (s : T) → seen (decide′ s) ≡ decide (look s)) where
+    pub tree-alike : (f k : ℕ) (s : T) → tree decide′ f k s ≡ tree decide f k (look s)
+    unfolding tree
+    tree-alike zero k s = refl
+    tree-alike (suc f) k s = rw (← alike s) (go (tree-alike f) (decide′ s))
+      where
+        tries : ((j : ℕ) (u : T) → tree decide′ f j u ≡ tree decide f j (look u)) → (j : ℕ) (u : T) → tried (tree decide′ f) j u ≡ tried (tree decide f) j (look u)
+        tries ih zero u = refl
+        tries ih (suc j) u = ih (suc j) u
+
+        go : ((j : ℕ) (u : T) → tree decide′ f j u ≡ tree decide f j (look u)) → (d : Decision T A) → visit (tree decide′ f) k d ≡ visit (tree decide f) k (seen d)
+        go ih dead = refl
+        go ih (done a) = refl
+        go ih (branch p l r) = rw (ih k l) (ap (split p (tree decide f k (look l))) (tries ih (k - length (tree decide f k (look l) .found)) r))
+
 -- What a decision means for the solutions of its state, and so for what the tree finds. left s: the open variables of s.
 module _ {S A : Type 0} (Good : S → Type 0) (left : S → ℕ) (Sol : S → A → Type 0) (Le : A → A → Type 0) where
   -- the solutions of s are those of l and of r, and the least of l comes before all of r

@@ -11,7 +11,7 @@ use Rattle.general.specs.Search.{firstPlace}
 use Rattle.literal.specs.declared.Literal.{Literal}
 use Rattle.literal.specs.declared.Literal.the-variants.{Pos, Neg}
 use Rattle.literal.specs.Literal.{maxVariables, maxClauses, maxLiterals, maxTable}
-use Rattle.receipt.specs.declared.Fault.the-variants.{TooManyClauses, TooManyLiterals, PlanShort, TrailShort, HeadsShort, ReceiptShort, UsedLengthWrong, StateShort, TableShort, StripShort, UnmentionedVariable}
+use Rattle.receipt.specs.declared.Fault.the-variants.{TooManyClauses, TooManyLiterals, PlanShort, TrailShort, HeadsShort, ReceiptShort, UsedLengthWrong, StateShort, TableShort, StripShort, UnmentionedVariable, ReasonsShort}
 use Rattle.receipt.specs.declared.Refusal.{Refusal}
 use Rattle.receipt.specs.declared.Checked.{Checked}
 use Rattle.receipt.specs.declared.Checked.the-variants.{Passed, Refused}
@@ -31,12 +31,14 @@ use Rattle.receipt.specs.declared.Saving.the-variants as saving
 use Rattle.receipt.specs.declared.Receipt.{Receipt}
 use Rattle.receipt.specs.Receipt.{numberOf, unknownVariable, refusal}
 use Rattle.receipt.specs.Answers.{searchingReceipt, readVariables}
-use Rattle.theory.specs.Formula.{Choice, clauses}
+use Rattle.theory.specs.Formula.{Formula, Choice, clauses}
 use Rattle.theory.specs.Heads.{headsOf}
 use Rattle.theory.specs.SettledList.{decided}
 use Rattle.theory.specs.State.{initial}
 use Rattle.theory.specs.Table.{closes, zeros, nonzeros, refused, isUnknown, check}
 use Rattle.theory.specs.Propagation.{Settled, dead, rest, settle}
+use Rattle.theory.specs.Reasons.{Explanation, unexplained, explain}
+use Rattle.theory.specs.Reasons as explanation
 use Rattle.theory.specs.Tree.{Result}
 use Rattle.theory.specs.Search.{search, planOf, trailOf}
 use Rattle.theory.specs.Mentions.{mentionsAll}
@@ -56,23 +58,43 @@ stateEntry (Neg zero) = negsuc maxVariables
 stateEntry (Pos (suc r)) = posℤ (suc r)
 stateEntry (Neg (suc r)) = negsuc r
 
+abbrev pub settlingOf : Settled → Settling
+settlingOf dead = settling.NoLayout
+settlingOf (rest s) = settling.Settled
+
+-- "On a dead end they become 0."
+abbrev pub stateList : ℕ → Settled → List ℤ
+stateList n dead = replicate n (posℤ 0)
+stateList n (rest s) = upTo (λ p. stateEntry (s p)) n
+
+-- "Settling writes these numbers to a second lent list of n elements, all 0 on a dead end" (document 02, A5)
+abbrev pub reasonList : ℕ → Explanation → List ℕ
+reasonList n explanation.dead = replicate n 0
+reasonList n (explanation.rest e) = upTo (e .reasons) n
+
 pub record SettleCall : Type 0 where
   pub answer : Settling
   pub list : List ℤ
+  pub reasons : List ℕ
 
--- "On a dead end they become 0."
-abbrev pub settledCall : ℕ → Settled → List ℤ → SettleCall
-settledCall n dead l = record { answer = settling.NoLayout; list = over n (replicate n (posℤ 0)) l }
-settledCall n (rest s) l = record { answer = settling.Settled; list = over n (upTo (λ p. stateEntry (s p)) n) l }
+abbrev pub settledCall : ℕ → Formula → List ℤ → List ℕ → SettleCall
+settledCall n f l m =
+    let s = settle n f initial in
+    record { answer = settlingOf s; list = over n (stateList n s) l; reasons = over n (reasonList n (explain n f (unexplained initial))) m }
 
-abbrev pub settleChecked : Checked → ℕ → List ℤ → List ℤ → SettleCall
-settleChecked (Refused r) n t l = record { answer = settling.Refused r; list = l }
-settleChecked Passed n t l =
-    cond (ltb (length l) n) (record { answer = settling.Refused (refusal StateShort 0); list = l }) (settledCall n (settle n (clauses t) initial) l)
+abbrev pub settleRefused : Refusal → List ℤ → List ℕ → SettleCall
+settleRefused r l m = record { answer = settling.Refused r; list = l; reasons = m }
 
--- "Tables: 1, 2, 3, 4, 5, then .. 14 (settle)"
-unfoldable pub settleCall : ℕ → List ℤ → List ℤ → SettleCall
-settleCall n t l = settleChecked (check n t) n t l
+abbrev pub settleChecked : Checked → ℕ → List ℤ → List ℤ → List ℕ → SettleCall
+settleChecked (Refused r) n t l m = settleRefused r l m
+settleChecked Passed n t l m =
+    cond (ltb (length l) n) (settleRefused (refusal StateShort 0) l m)
+    (cond (ltb (length m) n) (settleRefused (refusal ReasonsShort 0) l m)
+    (settledCall n (clauses t) l m))
+
+-- "Tables: 1, 2, 3, 4, 5, then .. 14 (settle)"; "Turned away: 19, reason list short, after 14" (A5)
+unfoldable pub settleCall : ℕ → List ℤ → List ℤ → List ℕ → SettleCall
+settleCall n t l m = settleChecked (check n t) n t l m
 
 -- Search ----------------------------------------------------------------------------------------------------------
 

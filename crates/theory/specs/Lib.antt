@@ -8,6 +8,7 @@ pub mod Propagation
 pub mod Tree
 pub mod Bound
 pub mod Search
+pub mod Reasons
 pub mod Strip
 pub mod Encoding
 pub mod Heads
