@@ -42,3 +42,13 @@ pub fn bytes(list: &[u8]) {
         byte(list[i]);
     }
 }
+
+fn small(x: u16) {
+    number(x as u64);
+}
+
+pub fn numbers(list: &[u16]) {
+    for i in 0..list.len() {
+        small(list[i]);
+    }
+}

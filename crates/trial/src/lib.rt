@@ -1,5 +1,6 @@
-// What the trials set beside the operations, and nothing here calls one: random filings, a table at the limits, a solver that tries every choice, slow checks of tables,
-// a slow reader, strips whole and damaged, and what each operation must answer by these. Little is ensured; the proofs say that each function is safe and ends.
+// What the trials set beside the operations, and nothing here calls one: random filings, tables with many groups, a solver that tries every choice, settling rule by
+// rule, slow checks of tables, a slow reader, strips whole and damaged, and what each operation must answer by these. Little is ensured; the proofs say that each
+// function is safe and ends.
 pub mod brute;
 pub mod completed;
 pub mod damage;
@@ -13,6 +14,8 @@ pub mod receipts;
 pub mod searched;
 pub mod settled;
 pub mod slow;
+pub mod standing;
+pub mod steps;
 pub mod tally;
 pub mod verdict;
 pub mod writer;

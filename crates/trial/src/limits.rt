@@ -1,4 +1,4 @@
-// A table at the limits: 512 groups of four entries, with both signs and every placement.
+// Tables with many groups. One at the limits has 512 groups of four entries, with both signs and every placement.
 use super::lists::put_entry;
 use super::lists::signed;
 use super::verdict::MAX_VARIABLES;
@@ -17,5 +17,21 @@ fn element(i: usize) -> i16 {
 pub fn fill(table: &mut [i16]) {
     for i in 0..table.len() {
         put_entry(table, i, element(i));
+    }
+}
+
+fn element_at_rest(i: usize) -> i16 {
+    let place = i % 3;
+    match place {
+        0 => 1,
+        1 => -1,
+        _ => 0,
+    }
+}
+
+// Groups of an entry and its opposite, which settling leaves as they are.
+pub fn fill_at_rest(table: &mut [i16]) {
+    for i in 0..table.len() {
+        put_entry(table, i, element_at_rest(i));
     }
 }

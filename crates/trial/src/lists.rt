@@ -9,6 +9,10 @@ pub fn byte_at(list: &[u8], i: usize) -> u8 {
     if i < list.len() { list[i] } else { 0 }
 }
 
+pub fn number_at(list: &[u16], i: usize) -> u16 {
+    if i < list.len() { list[i] } else { 0 }
+}
+
 // The next index; the same one where there is no room.
 pub fn put_entry(list: &mut [i16], at: usize, entry: i16) -> usize {
     if at < list.len() {
@@ -21,6 +25,14 @@ pub fn put_entry(list: &mut [i16], at: usize, entry: i16) -> usize {
 pub fn put_byte(list: &mut [u8], at: usize, byte: u8) -> usize {
     if at < list.len() {
         list[at] = byte;
+        return at + 1;
+    }
+    at
+}
+
+pub fn put_number(list: &mut [u16], at: usize, number: u16) -> usize {
+    if at < list.len() {
+        list[at] = number;
         return at + 1;
     }
     at
@@ -68,6 +80,18 @@ pub fn same_entries(a: &[i16], b: &[i16]) -> bool {
     true
 }
 
+pub fn same_numbers(a: &[u16], b: &[u16]) -> bool {
+    if a.len() != b.len() {
+        return false;
+    }
+    for i in 0..a.len() {
+        if number_at(a, i) != number_at(b, i) {
+            return false;
+        }
+    }
+    true
+}
+
 pub fn clear_bytes(list: &mut [u8], n: usize) {
     for i in 0..n {
         put_byte(list, i, 0);
@@ -77,6 +101,12 @@ pub fn clear_bytes(list: &mut [u8], n: usize) {
 pub fn clear_entries(list: &mut [i16], n: usize) {
     for i in 0..n {
         put_entry(list, i, 0);
+    }
+}
+
+pub fn clear_numbers(list: &mut [u16], n: usize) {
+    for i in 0..n {
+        put_number(list, i, 0);
     }
 }
 
@@ -109,4 +139,8 @@ pub fn names(list: &[i16], variable: usize) -> bool {
 pub fn signed(variable: usize, taken: bool) -> i16 {
     let entry = (variable % 32768) as i16;
     if taken { entry } else { -entry }
+}
+
+pub fn opposite(entry: i16) -> i16 {
+    signed(size(entry), entry < 0)
 }

@@ -4,17 +4,55 @@ use super::brute::none_excluded;
 use super::formula::Formula;
 use super::lists::byte_at;
 use super::lists::clear_entries;
+use super::lists::clear_numbers;
 use super::lists::entry_at;
 use super::lists::more;
 use super::lists::same_entries;
+use super::lists::same_numbers;
 use super::lists::size;
+use super::receipts::same_receipt;
+use receipt::Receipt;
 
 // Lists have so many elements, all 9 before a call.
 pub const ROOM: usize = 260;
 
-const TAKEN: i16 = 257;
+pub const TAKEN: i16 = 257;
 
-const LEFT_OUT: i16 = -257;
+pub const LEFT_OUT: i16 = -257;
+
+// What Settle answers and leaves behind.
+pub struct Run {
+    pub receipt: Receipt,
+    pub list: [i16; ROOM],
+    pub reasons: [u16; ROOM],
+}
+
+// A call that leaves n zeros in both lists.
+pub fn emptied(receipt: Receipt, n: usize) -> Run {
+    let mut list = [9i16; ROOM];
+    let mut reasons = [9u16; ROOM];
+    clear_entries(&mut list, n);
+    clear_numbers(&mut reasons, n);
+    Run {
+        receipt,
+        list,
+        reasons,
+    }
+}
+
+pub fn same_run(a: Run, b: Run) -> bool {
+    let list = a.list;
+    let other = b.list;
+    if !same_entries(&list, &other) {
+        return false;
+    }
+    let reasons = a.reasons;
+    let others = b.reasons;
+    if !same_numbers(&reasons, &others) {
+        return false;
+    }
+    same_receipt(a.receipt, b.receipt)
+}
 
 fn follows_at(list: &[i16], assignment: &[u8], i: usize) -> bool {
     let value = entry_at(list, i);
@@ -101,29 +139,28 @@ pub fn forms_of(list: &[i16], n: usize, before: Forms) -> Forms {
     forms
 }
 
-// The list of a dead end; untouched where n is 0.
-pub fn emptied(n: usize) -> [i16; ROOM] {
-    let mut list = [9i16; ROOM];
-    clear_entries(&mut list, n);
-    list
-}
-
-// Whether the list is that of a dead end, and the filing has no layout.
-pub fn is_dead_end(table: &[i16], formula: Formula, list: [i16; ROOM]) -> bool {
-    let zeros = emptied(formula.n);
-    if !same_entries(&list, &zeros) {
+// Whether a run is that of a dead end, and the filing has no layout.
+pub fn is_dead_end(run: Run, table: &[i16], formula: Formula) -> bool {
+    if !same_run(run, emptied(run.receipt, formula.n)) {
         return false;
     }
     let mut assignment = [0u8; ROOM];
     !first_solution(table, &mut assignment, formula.base, formula.n)
 }
 
-// Whether the list has no wrong form, is untouched after n elements, and excludes no layout.
-pub fn is_settled(table: &[i16], formula: Formula, list: [i16; ROOM]) -> bool {
+// Whether a list is untouched after n elements.
+fn is_kept(list: [i16; ROOM], n: usize) -> bool {
     let mut rest = list;
-    clear_entries(&mut rest, formula.n);
-    let zeros = emptied(formula.n);
-    if !same_entries(&rest, &zeros) {
+    let mut zeros = [9i16; ROOM];
+    clear_entries(&mut rest, n);
+    clear_entries(&mut zeros, n);
+    same_entries(&rest, &zeros)
+}
+
+// Whether a run's list has no wrong form, is untouched after n elements, and excludes no layout.
+pub fn is_settled(run: Run, table: &[i16], formula: Formula) -> bool {
+    let list = run.list;
+    if !is_kept(list, formula.n) {
         return false;
     }
     let forms = forms_of(&list, formula.n, Forms::new());

@@ -2,20 +2,25 @@
 use super::lists::byte_at;
 use super::lists::more;
 use super::settled::Forms;
+use super::settled::ROOM;
 use super::settled::forms_of;
 use std::num::wrapping_add_usize;
 
 // The numbers on the receipt are below this one.
 const NUMBERS: usize = 27;
 
+// So are the rules of settling below this one.
+const RULES: usize = 9;
+
 // How many answers of each number, how many that were not as expected, what an operation measures (the splits of a search, the bytes of a strip), added up and at
-// most, and what settled lists say.
+// most, what settled lists say, and how many reasons each rule gave.
 pub struct Tally {
     answers: [usize; NUMBERS],
     pub disagreements: usize,
     sum: usize,
     most: usize,
     forms: Forms,
+    rules: [usize; RULES],
 }
 
 fn line(name: &[u8], count: usize) {
@@ -32,6 +37,7 @@ impl Tally {
             sum: 0,
             most: 0,
             forms: Forms::new(),
+            rules: [0usize; RULES],
         }
     }
 
@@ -75,6 +81,22 @@ impl Tally {
         self
     }
 
+    fn with_rule(mut self, rule: u8) -> Tally {
+        let i = rule as usize;
+        if i < RULES {
+            self.rules[i] = more(self.rules[i]);
+        }
+        self
+    }
+
+    pub fn with_rules(self, rules: &[u8; ROOM], n: usize) -> Tally {
+        let mut tally = self;
+        for i in 0..n {
+            tally = tally.with_rule(byte_at(rules, i));
+        }
+        tally
+    }
+
     // The answers of a number, under a name.
     pub fn show(self, name: &[u8], number: u8) {
         let i = number as usize;
@@ -112,6 +134,27 @@ impl Tally {
         line(b"left out", forms.left_out);
         line(b"open", forms.free);
         line(b"tied", forms.tied);
+    }
+
+    fn show_rule(self, rule: u8) {
+        let i = rule as usize;
+        let all = self.rules;
+        show::text(b"reasons of rule");
+        show::number(rule as u64);
+        if i < RULES {
+            line(b":", all[i]);
+        }
+    }
+
+    // Rules 2 to 8 settle or tie.
+    pub fn show_reasons(self) {
+        self.show_rule(2);
+        self.show_rule(3);
+        self.show_rule(4);
+        self.show_rule(5);
+        self.show_rule(6);
+        self.show_rule(7);
+        self.show_rule(8);
     }
 
     pub fn show_disagreements(self) {

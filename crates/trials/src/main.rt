@@ -1,5 +1,5 @@
-// Every operation beside something that shares no definition with it: a solver that tries all choices, slow checks of tables, a slow reader, a plain writer. For each operation the
-// program prints how many answers of each number there were, and how many were not as expected.
+// Every operation beside something that shares no definition with it: a solver that tries all choices, settling rule by rule, slow checks of tables, a slow reader, a
+// plain writer. For each operation the program prints how many answers of each number there were, and how many were not as expected.
 mod add_trial;
 mod check_trial;
 mod index_trial;
@@ -72,13 +72,15 @@ fn search_all() -> usize {
     tally.disagreements
 }
 
+// One more table is settled, with the most groups.
 fn settle_all() -> usize {
     show::text(b"settle\n");
-    let tally = tally_of(Operation::Settle);
+    let tally = settle_trial::tried_last(tally_of(Operation::Settle));
     tally.show(b"settled", 13);
     tally.show(b"dead ends", 10);
-    tally.show_refused(&[1u8, 2, 3, 4, 5, 14]);
+    tally.show_refused(&[1u8, 2, 3, 4, 5, 14, 19]);
     tally.show_forms();
+    tally.show_reasons();
     tally.show_disagreements();
     tally.disagreements
 }
