@@ -293,6 +293,21 @@ def one_class(doublings, ties, others):
     return name.filing(groups)
 
 
+def waiting(ties, first, clashing):
+    """Rule 8 fits each of the first groups with each of the second, but rule 7 comes first, at the last pair, a step for each of many ties that touch them."""
+    name = Namer()
+    a, b, t, p, q = (name(letter) for letter in "abtpq")
+    common, tied = ([name(letter, i) for i in range(ties)] for letter in "cx")
+    second = MOST_GROUPS - 2 - ties - first
+    groups = [[-e if clashing else name("v"), a, b] for e in tied + [t] * (first - ties)]
+    groups += [[e, -a, -b] for e in tied + [t] * (second - ties)]
+    groups += [[c, -x, t] for c, x in zip(common, tied)]
+    groups += [common + [p, q], common + [-p, t]]
+    for i in range(MOST_ENTRIES - sum(map(len, groups))):
+        groups[first + i % second].insert(0, name("long", i // second))
+    return name.filing(groups)
+
+
 def one_long_group(size):
     """A split for every placement but two: the deepest tree there is."""
     return size, [list(range(1, size + 1))]
@@ -322,6 +337,13 @@ ALL = {
     "ties": lambda: one_class(0, 80, 340),
     "tiesarmed": lambda: one_class(9, 60, 340),
     "long256": lambda: one_long_group(256),
+}
+
+
+# Measured for Settle only
+SETTLED = {
+    "waiting": lambda: waiting(124, 250, False),
+    "waitclash": lambda: waiting(124, 250, True),
 }
 
 

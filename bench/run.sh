@@ -7,6 +7,7 @@
 #     bench/run.sh --stack                  the least stack, in KB, on which the layout program walks its deepest tree
 #     bench/run.sh --compare [WORD...]      only compares, WORDs as bench/compare.cpp says
 #     bench/run.sh --keystroke              what one element more costs beside a whole check of a table at the limits, in one line; it builds only what this needs
+#     bench/run.sh --settle                 what one Settle costs on each filing of bench/filings.py, and on which the most; it builds only what this needs
 #
 # OPTIONs (bench/table.py): --allowance N, --seconds S for the library on one filing, --limit S for a whole run, --reference PROGRAM (or REFERENCE in the environment).
 set -eu
@@ -40,16 +41,24 @@ keystroke() {
     python3 bench/keystroke.py
 }
 
+settle() {
+    proved check settles
+    python3 bench/settle.py
+}
+
 mode=table
 case ${1-} in
---growth | --stack | --compare | --keystroke)
+--growth | --stack | --compare | --keystroke | --settle)
     mode=${1#--}
     shift
     ;;
 esac
 mkdir -p target/bench
 need python3 python3
-[ "$mode" = keystroke ] || build
+case $mode in
+keystroke | settle) ;;
+*) build ;;
+esac
 
 # words that name files are the caller's
 words=()
@@ -77,6 +86,7 @@ case $mode in
 compare) target/bench/compare --most-splits "${MOST_SPLITS:-2000}" "${words[@]}" target/bin/layout ;;
 stack) bench/stack.sh ;;
 keystroke) keystroke ;;
+settle) settle ;;
 growth)
     python3 bench/filings.py --growth target/bench/growth >target/bench/made
     mapfile -t made <target/bench/made

@@ -18,9 +18,9 @@ use Rattle.theory.specs.State.{State, assign, opens, WellFormed}
 use Rattle.theory.specs.Propagation.{step}
 use Rattle.theory.specs.Reasons.{Explained, explained, unexplained, credit, assignBy, dead, rest, propagateBy, explain}
 use Rattle.theory.proofs.States.{Valid}
-use Rattle.theory.proofs.Asks.{Asks, valid-step}
+use Rattle.theory.proofs.Asks.{Asks, valid-step, asked-allowed}
 use Rattle.theory.proofs.Propagation.{asked-well, asked-closes}
-use Rattle.theory.proofs.Reasons.{asked-allowed, explain-step}
+use Rattle.theory.proofs.Reasons.{explain-step}
 use Rattle.propagate.specs.Code.{reasonsOf}
 
 -- x becomes t by clause k, and settling goes on
@@ -45,7 +45,7 @@ module _ (n : ℕ) (f : Formula) (e : Explained) where
 
     pub settle-more : {x t : Literal} → a .step ≡ Becomes x t → Within n f → WellFormed n (e .state) → Turn n f e (a .clause .0) x t
     settle-more {x} {t} i within w =
-        let q : Asks f (e .state) x t = asked-allowed within (e .state) w a (sym asked) i in
+        let q : Asks f (e .state) x t = asked-allowed f (e .state) a (sym asked) i in
         let v : Valid n (e .state) x t = valid-step within w q in
         let less = asked-closes within w q in
         record {

@@ -22,12 +22,11 @@ use Rattle.theory.proofs.Closed.{open-of, not-true-of}
 use Rattle.theory.proofs.Asks.{standing-no-false}
 use Rattle.theory.proofs.Stepped.{replace-alike, after-mem}
 use Rattle.theory.proofs.Idle.{live-none-true, live-before}
-use Rattle.clause.specs.declared.Test.{Test}
-use Rattle.clause.specs.declared.Test.the-variants.{Common, Opposed, Partner, Shared}
+use Rattle.clause.specs.declared.Test.the-variants.{Opposed, Partner, Shared}
 use Rattle.clause.specs.Finding.{shares, passes}
 use Rattle.rules.specs.declared.PairRule.{PairRule}
 use Rattle.rules.specs.declared.PairRule.the-variants.{Seven, Eight}
-use Rattle.rules.specs.Rules.{pairRule, pairs, paired, pairStep, another, Without, Side}
+use Rattle.rules.specs.Rules.{pairRule, pairs, paired, pairStep, another, wanted, Without, Side}
 use Rattle.rules.proofs.Pairs.{pair-live}
 
 -- beside a in g: a itself in h, or its opposite
@@ -47,26 +46,22 @@ differs x y d = rw (ne-eqb (var x) (var y) d)
 
 -- by what code tests -------------------------------------------------------------------------------------------------
 
-abbrev testOf : PairRule → Test
-testOf Seven = Common
-testOf Eight = Opposed
-
-tested : (p : PairRule) (h : Clause) (x : Literal) → passes (testOf p) h x ≡ stands (beside p x) h
+tested : (p : PairRule) (h : Clause) (x : Literal) → passes (wanted p) h x ≡ stands (beside p x) h
 tested Seven h x = refl
 tested Eight h x = refl
 
 module _ (p : PairRule) (g h : Clause) where
-  fits-pairs : {a b : Literal} → Fits p g h a b → pairs (testOf p) g h a ≡ true
+  fits-pairs : {a b : Literal} → Fits p g h a b → pairs (wanted p) g h a ≡ true
   fits-pairs {a} {b} f = and-intro (tested p h a ∙ mem-stands h (beside p a) (f .right)) (go (partner g h a) (find-finds _ g))
     where
       go : (o : Option Literal) → Finds (λ y. stands (opposite y) h && differ a y) g o → not (isNone o) ≡ true
       go none k = absurd (true-not-false (and-intro (mem-stands h (opposite b) (f .crossed-by)) (differs a b (f .apart))) (k b (f .crossing)))
       go (some y) k = refl
 
-  pairs-fits : (a : Literal) → List·Memᴰ a g → pairs (testOf p) g h a ≡ true → (b : Literal) × Fits p g h a b
-  pairs-fits a m e = let w = and-true (passes (testOf p) h a) _ e in go (w .0) (partner g h a) (find-finds _ g) (w .1)
+  pairs-fits : (a : Literal) → List·Memᴰ a g → pairs (wanted p) g h a ≡ true → (b : Literal) × Fits p g h a b
+  pairs-fits a m e = let w = and-true (passes (wanted p) h a) _ e in go (w .0) (partner g h a) (find-finds _ g) (w .1)
     where
-      go : passes (testOf p) h a ≡ true → (o : Option Literal) → Finds (λ y. stands (opposite y) h && differ a y) g o → not (isNone o) ≡ true → (b : Literal) × Fits p g h a b
+      go : passes (wanted p) h a ≡ true → (o : Option Literal) → Finds (λ y. stands (opposite y) h && differ a y) g o → not (isNone o) ≡ true → (b : Literal) × Fits p g h a b
       go q none k z = absurd (true-not-false z refl)
       go q (some b) k z =
           let w = and-true (stands (opposite b) h) (differ a b) (k .1) in (
@@ -81,7 +76,7 @@ module _ (p : PairRule) (g h : Clause) where
           )
 
 -- the rule asks nothing exactly where no literal is paired
-step-paired : (p : PairRule) (g h : Clause) → pairStep p g h ≡ none → paired (testOf p) g h ≡ none
+step-paired : (p : PairRule) (g h : Clause) → pairStep p g h ≡ none → paired (wanted p) g h ≡ none
 unfolding bind
 step-paired Seven g h e = map-none _ _ e
 step-paired Eight g h e = go (paired Opposed g h) (find-finds (pairs Opposed g h) g) e
@@ -90,7 +85,7 @@ step-paired Eight g h e = go (paired Opposed g h) (find-finds (pairs Opposed g h
     go none k q = refl
     go (some x) k q = absurd (true-not-false (and-true (stands (opposite x) h) _ (k .1) .1) (rw (map-none (tie x) (partner g h x) q)))
 
-paired-step : (p : PairRule) (g h : Clause) → paired (testOf p) g h ≡ none → pairStep p g h ≡ none
+paired-step : (p : PairRule) (g h : Clause) → paired (wanted p) g h ≡ none → pairStep p g h ≡ none
 unfolding bind
 paired-step Seven g h e = rw e
 paired-step Eight g h e = rw e
@@ -100,9 +95,9 @@ module _ (p : PairRule) (g h : Clause) where
   step-unfit e a b f = true-not-false (fits-pairs p g h f) (find-none _ g (step-paired p g h e) a (f .left))
 
   unfit-step : ((a b : Literal) → ¬ Fits p g h a b) → pairStep p g h ≡ none
-  unfit-step unfit = paired-step p g h (go (paired (testOf p) g h) (find-finds _ g))
+  unfit-step unfit = paired-step p g h (go (paired (wanted p) g h) (find-finds _ g))
     where
-      go : (o : Option Literal) → Finds (pairs (testOf p) g h) g o → o ≡ none
+      go : (o : Option Literal) → Finds (pairs (wanted p) g h) g o → o ≡ none
       go none k = refl
       go (some a) k = let w = pairs-fits p g h a (k .0) (k .1) in absurd (unfit a (w .0) (w .1))
 
@@ -131,6 +126,14 @@ none-another Eight g h x e = unfit-step Eight g h (λ a b f. elim (ℕ-discrete 
         (and-intro (mem-stands g (opposite (opposite y)) (rw (opposite-opposite y) m)) (differs x (opposite y) (λ r. d (r ∙ var-opposite y))))
         (find-none (passes (Partner x) g) h (sym e) (opposite y) k)
 
+beside-twice : (p : PairRule) (a : Literal) → beside p (beside p a) ≡ a
+beside-twice Seven a = refl
+beside-twice Eight a = opposite-opposite a
+
+pub none-wanted : (p : PairRule) (g h : Clause) → none ≡ find (passes (wanted p) g) h → pairStep p g h ≡ none
+none-wanted p g h e = unfit-step p g h (λ a b f.
+    true-not-false (tested p g (beside p a) ∙ rw (beside-twice p a) (mem-stands g a (f .left))) (find-none (passes (wanted p) g) h (sym e) (beside p a) (f .right)))
+
 -- two clauses that the rule does not fit ------------------------------------------------------------------------------
 
 abbrev pub Unfit : PairRule → Clause → Clause → Type 0
@@ -151,10 +154,6 @@ module _ (p : PairRule) (g h : Clause) where
 var-beside : (p : PairRule) (a : Literal) → var (beside p a) ≡ var a
 var-beside Seven a = refl
 var-beside Eight a = var-opposite a
-
-beside-twice : (p : PairRule) (a : Literal) → beside p (beside p a) ≡ a
-beside-twice Seven a = refl
-beside-twice Eight a = opposite-opposite a
 
 fits-turned : {p : PairRule} {g h : Clause} {a b : Literal} → Fits p g h a b → Fits p h g (beside p a) (opposite b)
 fits-turned {p} {g} {h} {a} {b} f = record {

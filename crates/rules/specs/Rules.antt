@@ -76,6 +76,11 @@ abbrev pub another : PairRule → Literal → Test
 another Seven x = Shared x
 another Eight x = Partner x
 
+-- how the first of the rule's two literals stands in the other clause
+abbrev pub wanted : PairRule → Test
+wanted Seven = Common
+wanted Eight = Opposed
+
 -- that the rule may fit is no promise; that it may not is one
 abbrev pub MayFit : PairRule → List ℕ → Clause → Bool → Type 0
 MayFit rule k h r = (g : Clause) → CountsOf k g → r ≡ false → pairStep rule g h ≡ none

@@ -3,7 +3,7 @@ ghost use mathlib.Core.Path.{_≡_};
 ghost use Rattle.theory.specs.Rules.{tie, becomesFalse, rule1, rule3, rule5, rule6};
 ghost use Rattle.clause.specs.Reading.{Ready, clauseAt, CountsOf};
 ghost use Rattle.clause.specs.Finding.{found};
-ghost use Rattle.rules.specs.Rules.{fit, asksAt, asksPair, falseWhere, Paired, PairStep, another, MayFit};
+ghost use Rattle.rules.specs.Rules.{fit, asksAt, asksPair, falseWhere, Paired, PairStep, another, wanted, MayFit};
 use clause::Found;
 use clause::Next;
 use clause::Test;
@@ -215,7 +215,17 @@ fn another(rule: PairRule, x: Literal) -> Test
     }
 }
 
-// Whether rule 7 or 8 may fit a counted clause and the one at h: a quick look, which says no of most pairs.
+// What the first of the two literals that a rule wants is in the other clause: rule 7 wants it to stand there, rule 8 its opposite.
+fn wanted(rule: PairRule) -> Test
+    ensures { λ r. ⌜ r ≡ wanted rule ⌝ }
+{
+    match rule {
+        PairRule::Seven => Test::Common,
+        PairRule::Eight => Test::Opposed,
+    }
+}
+
+// Whether rule 7 or 8 may fit a counted clause and the one at h: three quick looks, and most pairs don't pass the first.
 pub fn may_fit(
     table: &[i16],
     values: &[u16; Literal::VARIABLES],
@@ -231,7 +241,11 @@ pub fn may_fit(
         return false;
     };
     let second = clause::first_that(table, values, h, counts, another(rule, x));
-    match second {
+    let Found::At(_) = second else {
+        return false;
+    };
+    let first = clause::first_that(table, values, h, counts, wanted(rule));
+    match first {
         Found::Nothing => false,
         Found::At(_) => true,
     }

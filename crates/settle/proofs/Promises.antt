@@ -11,6 +11,7 @@ use lib.ListN.{length, getD, take, drop, replicate, length-replicate}
 use lib.Seq.{take-at, drop-at}
 use Rattle.general.specs.Booleans.{cond-ind}
 use Rattle.general.specs.Lists.{upTo, length-from}
+use Rattle.literal.specs.declared.Literal.the-variants.{Pos}
 use Rattle.receipt.specs.Receipt.{refusal, receipt}
 use Rattle.receipt.specs.Answers.{settlingReceipt}
 use Rattle.receipt.specs.declared.Fault.the-variants.{StateShort, ReasonsShort}
@@ -31,7 +32,7 @@ use Rattle.theory.specs.Table.{zeros, Accepted, check, WithinLimits}
 use Rattle.theory.specs.Unknown.{UnknownInTable, Names}
 use Rattle.theory.proofs.Heads.{clauses-zeros}
 use Rattle.theory.proofs.Forgetting.{settle-forgets}
-use Rattle.theory.proofs.Reasons.{reason-open, reason-named, reason-kept}
+use Rattle.theory.proofs.Reasons.{initial-accounted, reason-open, reason-named, reason-kept}
 use Rattle.theory.proofs.SettledList.{entry-open, written-at, list-read, dead-end-none, settled-well, settled-remains}
 use Rattle.theory.proofs.Tables.{accepted-sizes, accepted-exactly, accepted-within}
 use Rattle.theory.proofs.Unknown.{none-named, check-names}
@@ -219,24 +220,20 @@ module _ {n : ℕ} {t l : List ℤ} {m : List ℕ} {r : Settling} {l′ : List �
 
   -- A5, which rule settled it ---------------------------------------------------------------------------------------
 
+  settles : NotRefused r → called r l′ m′ ≡ settledCall n (clauses t) l m
+  unfolding settleCall
+  settles k =
+      let a = settle-accepts .0 k in
+      let e : Accepted n t = accepted-exactly n t .1 (a .within) in
+      c .is ∙ rw (e, le-ltb (length l) n (a .list-room), le-ltb (length m) n (a .reasons-room))
+
   -- without the reasons it is settling as it was: the same number, and the same list
   pub settle-as-before : NotRefused r → (r ≡ settlingOf (settle n (clauses t) initial)) × (l′ ≡ over n (stateList n (settle n (clauses t) initial)) l)
-  settle-as-before = go (way c)
-    where
-      go : {r : Settling} {l′ : List ℤ} {m′ : List ℕ} → Way n t l m r l′ m′ → NotRefused r →
-          (r ≡ settlingOf (settle n (clauses t) initial)) × (l′ ≡ over n (stateList n (settle n (clauses t) initial)) l)
-      go (refused w h) k = absurd (k w refl)
-      go (dead-end a e) k = rw (forgotten n t e) (refl, refl)
-      go (settled a u e) k = rw (forgotten n t e) (refl, refl)
+  settle-as-before k = (ap (λ (s : SettleCall). s .answer) (settles k), ap (λ (s : SettleCall). s .list) (settles k))
 
   -- what the reasons are: those of settling's own steps
   pub settle-reasons : NotRefused r → m′ ≡ over n (reasonList n (settling-of n t)) m
-  settle-reasons = go (way c)
-    where
-      go : {r : Settling} {l′ : List ℤ} {m′ : List ℕ} → Way n t l m r l′ m′ → NotRefused r → m′ ≡ over n (reasonList n (settling-of n t)) m
-      go (refused w h) k = absurd (k w refl)
-      go (dead-end a e) k = rw e
-      go (settled a u e) k = rw e
+  settle-reasons k = ap (λ (s : SettleCall). s .reasons) (settles k)
 
   module _ (done : numberOf r ≡ 13) where
     abbrev e : End n t l′ m′
@@ -246,27 +243,31 @@ module _ {n : ℕ} {t l : List ℤ} {m : List ℕ} {r : Settling} {l′ : List �
     within = within-of (e .limits)
 
     module _ (i : ℕ) (h : i < n) where
+      opened : (stateEntry (e .state .state (suc i)) ≡ posℤ (suc i)) ↔ (e .state .state (suc i) ≡ Pos (suc i))
+      opened =
+          let low = settled-well within (e .state .state) (forgotten n t (e .is)) .low (suc i) in
+          let few = e .limits .variables in
+          entry-open (e .state .state (suc i)) i (omega arith) (omega arith)
+
       -- "it is 0 while open", and nowhere else: Settle has no splits
       pub settle-reason-open : (getD m′ i 0 ≡ 0) ↔ (getD l′ i (posℤ 0) ≡ posℤ (suc i))
       settle-reason-open =
-          let low = settled-well within (e .state .state) (forgotten n t (e .is)) .low (suc i) in
-          let few = e .limits .variables in
-          let o = entry-open (e .state .state (suc i)) i (omega arith) (omega arith) in
           let z = reason-open within (suc n) (e .state) (e .is) (suc i) in (
-            λ q. e .entry i h ∙ o .1 (z .0 (sym (e .reason i h) ∙ q)),
-            λ q. e .reason i h ∙ z .1 (o .0 (sym (e .entry i h) ∙ q)),
+            λ q. e .entry i h ∙ opened .1 (z .0 (sym (e .reason i h) ∙ q)),
+            λ q. e .reason i h ∙ z .1 (opened .0 (sym (e .entry i h) ∙ q)),
           )
 
       -- else it is "the number of the group that settled or tied it, for rules 7 and 8 the later of the two", and that group holds the placement, or one tied to it
-      pub settle-reason-named : getD m′ i 0 ≢ 0 → SettledBy (clauses t) (suc i) (getD m′ i 0)
-      settle-reason-named k = rw (e .reason i h) (reason-named within (suc n) (e .state) (e .is) (suc i) (λ z. k (e .reason i h ∙ z)))
+      pub settle-reason-named : getD l′ i (posℤ 0) ≢ posℤ (suc i) → SettledBy (clauses t) (suc i) (getD m′ i 0)
+      settle-reason-named k =
+          rw (e .reason i h) (reason-named within (suc n) (e .state) (e .is) (suc i) (λ q. k (e .entry i h ∙ opened .1 q)))
 
       -- between 1 and the number of groups
-      pub settle-reason-between : getD m′ i 0 ≢ 0 → (1 ≤ getD m′ i 0) × (getD m′ i 0 ≤ zeros t)
+      pub settle-reason-between : getD l′ i (posℤ 0) ≢ posℤ (suc i) → (1 ≤ getD m′ i 0) × (getD m′ i 0 ≤ zeros t)
       settle-reason-between k =
           let g = settle-reason-named k .holder in
           (g .from-one, omega (arith, g .is-clause, clauses-zeros t))
 
       -- a reason once given stays, whatever is settled or tied later
       pub settle-reason-stays : (k : ℕ) (u : Explained) → propagateBy k (clauses t) (unexplained initial) ≡ rest u → u .reasons (suc i) ≢ 0 → getD m′ i 0 ≡ u .reasons (suc i)
-      settle-reason-stays k u q z = e .reason i h ∙ reason-kept within k u (e .state) q (e .is) (suc i) z
+      settle-reason-stays k u q z = e .reason i h ∙ reason-kept within k (unexplained initial) u (e .state) (initial-accounted n) q (e .is) (suc i) z

@@ -47,7 +47,7 @@ fn write_state(list: &mut [i16], n: usize, values: &[u16; Literal::VARIABLES])
     }
 }
 
-// The clause that settled or tied each placement from 1 to n, 0 where none did.
+// The group that settled or tied each placement from 1 to n, 0 where none did.
 fn write_reasons(lent: &mut [u16], n: usize, reasons: &[u16; Literal::VARIABLES])
     requires { ⌜ n ≤ length (now lent) ⌝ }
     requires { ⌜ n ≤ maxVariables ⌝ }

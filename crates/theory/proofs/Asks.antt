@@ -23,7 +23,7 @@ use Rattle.theory.specs.declared.Step.the-variants.{DeadEnd, Becomes}
 use Rattle.theory.specs.Rules.{occurs, stands, noneTrue, differ, complementary, other, isNone, partner, pairIn, live, tie, rule1, rule2, rule3, rule4, rule5, rule6, rule7, rule8}
 use Rattle.theory.specs.declared.Asked.{Asked}
 use Rattle.theory.specs.Propagation.{firstClause, firstPair, ask, step}
-use Rattle.theory.specs.Reasons.{Holds}
+use Rattle.theory.specs.Reasons.{numbered, clauseRules, pairRules, AskedOf, alone, paired, Holds}
 use Rattle.theory.proofs.Literals.{var-opposite}
 use Rattle.theory.proofs.States.{Fixed, Valid, value-variable, value-fixed, value-low, well-based, base-true, base-false}
 use Rattle.theory.proofs.Ties.{Ties, ties-higher, ties-turned}
@@ -229,11 +229,11 @@ module _ (g h : Clause) (f : NoFalse g) where
       (live-open (w .0) (b .0) (x .0)) (live-open (w .0) (m .0) (y .0)) k))
 
 -- a clause of a list in which the first has number k, and its number j
-pub record Numbered {A : Type 0} (k : ℕ) (f : List A) (c : A) (j : ℕ) : Type 0 where
-  pub index : ℕ
-  pub inside : index < length f
-  pub here : (d : A) → getD f index d ≡ c
-  pub number : j ≡ k + index
+record Numbered {A : Type 0} (k : ℕ) (f : List A) (c : A) (j : ℕ) : Type 0 where
+  index : ℕ
+  inside : index < length f
+  here : (d : A) → getD f index d ≡ c
+  number : j ≡ k + index
 
 numbered-first : {A : Type 0} {k : ℕ} {c : A} {f : List A} {j : ℕ} → k ≡ j → Numbered k (c ∷ f) c j
 numbered-first e = record { index = 0; inside = omega arith; here = λ d. refl; number = omega arith }
@@ -262,12 +262,14 @@ module _ {A : Type 0} (look : A → Clause) where
       ⊎-elim (λ (q : c ≡ d). rw q (map-none _ (rule (look d)) (w .0))) (clause-none rule (suc k) f (w .1)) (List·Memᴰ·cases-cons m)
 
   pair-some : (rule : Clause → Clause → Option Step) (k : ℕ) (f : List A) (a : Asked) → firstPair rule k (map look f) ≡ some a →
-      (g : A) × (h : A) × Before g h f × Numbered k f h (a .clause .0) × (rule (look g) (look h) ≡ some (a .step))
+      (g : A) × (h : A) × (j : ℕ) × Before g h f × Numbered k f g j × Numbered k f h (a .clause .0) × (j < a .clause .0) × (rule (look g) (look h) ≡ some (a .step))
   unfolding firstPair
   pair-some rule k [] a e = absurd (Option·none-ne-some a e)
   pair-some rule k (c ∷ f) a e = ⊎-elim
-      (λ h. let w = clause-some (rule (look c)) (suc k) f a h in (c, w .0, here (w .1), numbered-later (w .2), w .3))
-      (λ h. let w = pair-some rule (suc k) f a h in (w .0, w .1, later (w .2), numbered-later (w .3), w .4))
+      (λ h.
+      let w = clause-some (rule (look c)) (suc k) f a h in
+      (c, w .0, k, here (w .1), numbered-first refl, numbered-later (w .2), omega (arith, w .2 .number), w .3))
+      (λ h. let w = pair-some rule (suc k) f a h in (w .0, w .1, w .2, later (w .3), numbered-later (w .4), numbered-later (w .5), w .6, w .7))
       (orElse-some (firstClause (rule (look c)) (suc k) (map look f)) (firstPair rule (suc k) (map look f)) a e)
 
   pub pair-none : (rule : Clause → Clause → Option Step) (k : ℕ) {g h : A} {f : List A} → firstPair rule k (map look f) ≡ none → Before g h f → rule (look g) (look h) ≡ none
@@ -277,46 +279,70 @@ module _ {A : Type 0} (look : A → Clause) where
   pair-none rule k e (later {z = z} {l = f} b) =
       pair-none rule (suc k) (orElse-none (firstClause (rule (look z)) (suc k) (map look f)) (firstPair rule (suc k) (map look f)) e .1) b
 
--- the step of the fixed order is asked by one clause, or by two
-module _ (f : Formula) (s : State) (a : Asked) {P : Type 0}
-    (one : (c : Clause) → List·Memᴰ c f → Numbered 1 f c (a .clause .0) → One (standing s c) (a .step) → P)
-    (two : (g h : Clause) → Before g h f → Numbered 1 f h (a .clause .0) → Two (standing s g) (standing s h) (a .step) → P) where
-  from-one : (rule : Clause → Option Step) → ((c : Clause) → rule (standing s c) ≡ some (a .step) → One (standing s c) (a .step)) →
-      firstClause rule 1 (map (standing s) f) ≡ some a → P
-  from-one rule ok e = let w = clause-some (standing s) rule 1 f a e in one (w .0) (w .1) (w .2) (ok (w .0) (w .3))
+-- what the rules of one clause, and of two, say of the step that they ask
+one-of : (rule : Clause → Option Step) → List·Memᴰ rule clauseRules → (c : Clause) → NoFalse c → (d : Step) → rule c ≡ some d → One c d
+one-of rule m c f d e =
+    ⊎-elim (λ (q : rule ≡ rule1). rule1-one c f d (rw q at e))
+    (λ m. ⊎-elim (λ (q : rule ≡ rule2). rule2-one c f d (rw q at e))
+    (λ m. ⊎-elim (λ (q : rule ≡ rule3). rule3-one c d (rw q at e))
+    (λ m. ⊎-elim (λ (q : rule ≡ rule4). rule4-one c f d (rw q at e))
+    (λ m. ⊎-elim (λ (q : rule ≡ rule5). rule5-one c f d (rw q at e))
+    (λ m. ⊎-elim (λ (q : rule ≡ rule6). rule6-one c d (rw q at e))
+    (λ m. absurd (List·Memᴰ·not-nil m))
+    (List·Memᴰ·cases-cons m)) (List·Memᴰ·cases-cons m)) (List·Memᴰ·cases-cons m)) (List·Memᴰ·cases-cons m)) (List·Memᴰ·cases-cons m)) (List·Memᴰ·cases-cons m)
 
-  from-two : (rule : Clause → Clause → Option Step) →
-      ((g h : Clause) → rule (standing s g) (standing s h) ≡ some (a .step) → Two (standing s g) (standing s h) (a .step)) →
-      firstPair rule 1 (map (standing s) f) ≡ some a → P
-  from-two rule ok e = let w = pair-some (standing s) rule 1 f a e in two (w .0) (w .1) (w .2) (w .3) (ok (w .0) (w .1) (w .4))
+two-of : (rule : Clause → Clause → Option Step) → List·Memᴰ rule pairRules → (g h : Clause) → NoFalse g → (d : Step) → rule g h ≡ some d → Two g h d
+two-of rule m g h f d e =
+    ⊎-elim (λ (q : rule ≡ rule7). rule7-two g h f d (rw q at e))
+    (λ m. ⊎-elim (λ (q : rule ≡ rule8). rule8-two g h f d (rw q at e)) (λ m. absurd (List·Memᴰ·not-nil m)) (List·Memᴰ·cases-cons m))
+    (List·Memᴰ·cases-cons m)
+
+-- the step of the fixed order is asked by a rule of one clause, or of two
+module _ (f : Formula) (s : State) (a : Asked) {P : Type 0}
+    (one : (c : Clause) → List·Memᴰ c f → Numbered 1 f c (a .clause .0) →
+    (rule : Clause → Option Step) → List·Memᴰ rule clauseRules → rule (standing s c) ≡ some (a .step) → P)
+    (two : (g h : Clause) → Before g h f → (j : ℕ) → Numbered 1 f g j → Numbered 1 f h (a .clause .0) → j < a .clause .0 →
+    (rule : Clause → Clause → Option Step) → List·Memᴰ rule pairRules → rule (standing s g) (standing s h) ≡ some (a .step) → P) where
+  from-one : (rule : Clause → Option Step) → List·Memᴰ rule clauseRules → firstClause rule 1 (map (standing s) f) ≡ some a → P
+  from-one rule i e = let w = clause-some (standing s) rule 1 f a e in one (w .0) (w .1) (w .2) rule i (w .3)
+
+  from-two : (rule : Clause → Clause → Option Step) → List·Memᴰ rule pairRules → firstPair rule 1 (map (standing s) f) ≡ some a → P
+  from-two rule i e = let w = pair-some (standing s) rule 1 f a e in two (w .0) (w .1) (w .3) (w .2) (w .4) (w .5) (w .6) rule i (w .7)
 
   step-cases : step f s ≡ some a → P
   unfolding ask
   step-cases e =
-      ⊎-elim (from-one rule1 (λ c. rule1-one (standing s c) (false-free c) (a .step)))
-      (λ e. ⊎-elim (from-one rule2 (λ c. rule2-one (standing s c) (false-free c) (a .step)))
-      (λ e. ⊎-elim (from-one rule3 (λ c. rule3-one (standing s c) (a .step)))
-      (λ e. ⊎-elim (from-one rule4 (λ c. rule4-one (standing s c) (false-free c) (a .step)))
-      (λ e. ⊎-elim (from-one rule5 (λ c. rule5-one (standing s c) (false-free c) (a .step)))
-      (λ e. ⊎-elim (from-one rule6 (λ c. rule6-one (standing s c) (a .step)))
-      (λ e. ⊎-elim (from-two rule7 (λ g h. rule7-two (standing s g) (standing s h) (false-free g) (a .step)))
-      (from-two rule8 (λ g h. rule8-two (standing s g) (standing s h) (false-free g) (a .step)))
+      ⊎-elim (from-one rule1 (List·Memᴰ·head refl))
+      (λ e. ⊎-elim (from-one rule2 (List·Memᴰ·tail (List·Memᴰ·head refl)))
+      (λ e. ⊎-elim (from-one rule3 (List·Memᴰ·tail (List·Memᴰ·tail (List·Memᴰ·head refl))))
+      (λ e. ⊎-elim (from-one rule4 (List·Memᴰ·tail (List·Memᴰ·tail (List·Memᴰ·tail (List·Memᴰ·head refl)))))
+      (λ e. ⊎-elim (from-one rule5 (List·Memᴰ·tail (List·Memᴰ·tail (List·Memᴰ·tail (List·Memᴰ·tail (List·Memᴰ·head refl))))))
+      (λ e. ⊎-elim (from-one rule6 (List·Memᴰ·tail (List·Memᴰ·tail (List·Memᴰ·tail (List·Memᴰ·tail (List·Memᴰ·tail (List·Memᴰ·head refl)))))))
+      (λ e. ⊎-elim (from-two rule7 (List·Memᴰ·head refl)) (from-two rule8 (List·Memᴰ·tail (List·Memᴰ·head refl)))
       (orElse-some _ _ a e)) (orElse-some _ _ a e)) (orElse-some _ _ a e)) (orElse-some _ _ a e)) (orElse-some _ _ a e)) (orElse-some _ _ a e)) (orElse-some _ _ a e)
-    where
-      false-free : (c : Clause) → NoFalse (standing s c)
-      false-free c = standing-no-false s c
 
 -- so some rule allows it
-pub step-allowed : (f : Formula) (s : State) (a : Asked) → step f s ≡ some a → Allowed f s (a .step)
-step-allowed f s a = step-cases f s a (λ c m k. by-clause (a .step) c m) (λ g h b k. by-pair (a .step) g h b)
-  where
-    by-clause : (t : Step) (c : Clause) → List·Memᴰ c f → One (standing s c) t → Allowed f s t
-    by-clause DeadEnd c m h = record { clause = c; member = m; dead-end = h }
-    by-clause (Becomes x t) c m h = by-one c m h
+module _ (f : Formula) (s : State) (a : Asked) where
+  pub step-allowed : step f s ≡ some a → Allowed f s (a .step)
+  step-allowed = step-cases f s a
+      (λ c m k rule i e. by-clause (a .step) c m (one-of rule i (standing s c) (standing-no-false s c) (a .step) e))
+      (λ g h b j k l i rule m e. by-pair (a .step) g h b (two-of rule m (standing s g) (standing s h) (standing-no-false s g) (a .step) e))
+    where
+      by-clause : (d : Step) (c : Clause) → List·Memᴰ c f → One (standing s c) d → Allowed f s d
+      by-clause DeadEnd c m h = record { clause = c; member = m; dead-end = h }
+      by-clause (Becomes x t) c m h = by-one c m h
 
-    by-pair : (t : Step) (g h : Clause) → Before g h f → Two (standing s g) (standing s h) t → Allowed f s t
-    by-pair DeadEnd g h b k = absurd k
-    by-pair (Becomes x t) g h b k = by-two g h b k
+      by-pair : (d : Step) (g h : Clause) → Before g h f → Two (standing s g) (standing s h) d → Allowed f s d
+      by-pair DeadEnd g h b k = absurd k
+      by-pair (Becomes x t) g h b k = by-two g h b k
+
+  pub asked-allowed : {x t : Literal} → step f s ≡ some a → a .step ≡ Becomes x t → Asks f s x t
+  asked-allowed asked e = rw e at (step-allowed asked)
+
+-- Which clause asks the step ---------------------------------------------------------------------------------------
+
+numbered-clause : {f : Formula} {c : Clause} {k : ℕ} → Numbered 1 f c k → numbered f k ≡ c
+numbered-clause {k = k} n = let at : k - 1 ≡ n .index = omega (arith, n .number) in rw at (n .here [])
 
 -- a literal of variable p stands in a clause
 abbrev Stood : ℕ → Clause → Type 0
@@ -339,24 +365,34 @@ two-holds (crossed {x = x} y z yg yh zg zh oy oz k) = ⊎-elim
     (λ (q : var x ≡ var z). (opposite z, zh, var-opposite z ∙ sym q))
     (k .one-of)
 
--- and the clause that asks it, of a pair the later one, holds the variable that it settles or ties, or one that is tied to it
-pub step-holds : (f : Formula) (s : State) (a : Asked) {x t : Literal} → step f s ≡ some a → a .step ≡ Becomes x t → Holds f s (a .clause .0) (var x)
-step-holds f s a {x} {t} asked e = step-cases f s a
-    (λ c m k h. let o : AsksOne (standing s c) x t = rw e at h in stems c k (one-holds o))
-    (λ g c b k h. let o : AsksTwo (standing s g) (standing s c) x t = rw e at h in stems c k (two-holds o))
-    asked
-  where
-    stems : (c : Clause) → Numbered 1 f c (a .clause .0) → Stood (var x) (standing s c) → Holds f s (a .clause .0) (var x)
-    stems c k w =
-        let l = standing-mem s c (w .0) (w .1) in
-        let at : a .clause .0 - 1 ≡ k .index = omega (arith, k .number) in
-        record {
-          from-one = omega (arith, k .number);
-          is-clause = omega (arith, k .number, k .inside);
-          entry = l .written;
-          in-clause = rw (at, k .here []) (l .member);
-          tied = sym (value-variable s (l .written)) ∙ ap var (l .valued) ∙ w .2;
-        }
+module _ (f : Formula) (s : State) (a : Asked) where
+  -- of a pair the later one
+  pub step-asker : step f s ≡ some a → AskedOf f s (a .clause .0) (a .step)
+  step-asker = step-cases f s a
+      (λ c m k rule i e. alone rule i (rw (numbered-clause k) e))
+      (λ g h b j k l i rule m e. paired rule m j (omega (arith, k .number)) i (rw (numbered-clause k, numbered-clause l) e))
+
+  -- it holds the variable that the step settles or ties, or one that is tied to it
+  pub step-holds : {x t : Literal} → step f s ≡ some a → a .step ≡ Becomes x t → Holds f s (a .clause .0) (var x)
+  step-holds {x} {t} asked e = step-cases f s a
+      (λ c m k rule i h.
+      let o : AsksOne (standing s c) x t = rw e at (one-of rule i (standing s c) (standing-no-false s c) (a .step) h) in
+      stems c k (one-holds o))
+      (λ g c b j l k i rule m h.
+      let o : AsksTwo (standing s g) (standing s c) x t = rw e at (two-of rule m (standing s g) (standing s c) (standing-no-false s g) (a .step) h) in
+      stems c k (two-holds o))
+      asked
+    where
+      stems : (c : Clause) → Numbered 1 f c (a .clause .0) → Stood (var x) (standing s c) → Holds f s (a .clause .0) (var x)
+      stems c k w =
+          let l = standing-mem s c (w .0) (w .1) in
+          record {
+            from-one = omega (arith, k .number);
+            is-clause = omega (arith, k .number, k .inside);
+            entry = l .written;
+            in-clause = rw (numbered-clause k) (l .member);
+            tied = sym (value-variable s (l .written)) ∙ ap var (l .valued) ∙ w .2;
+          }
 
 -- where the fixed order asks nothing, no rule fits
 pub record Rests (f : Formula) (s : State) : Type 0 where

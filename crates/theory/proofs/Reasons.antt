@@ -18,9 +18,10 @@ use Rattle.theory.specs.Formula.{Formula, Within}
 use Rattle.theory.specs.State.{State, initial, assign, opens, WellFormed}
 use Rattle.theory.specs.Propagation.{askedBy, step, act, follow, propagate}
 use Rattle.theory.specs.Propagation as settled
-use Rattle.theory.specs.Reasons.{Explained, unexplained, assignBy, rest, actBy, followBy, propagateBy, explain, SettledBy}
+use Rattle.theory.specs.Reasons.{Explained, unexplained, assignBy, rest, actBy, followBy, propagateBy, explain, forget, SettledBy}
 use Rattle.theory.proofs.States.{Valid, fixed-pos, root-fixed, fixed-root, assign-well, assign-other, assign-self, opens-bound}
-use Rattle.theory.proofs.Asks.{Asks, Allowed, valid-step, step-allowed, step-holds}
+use Rattle.theory.proofs.Forgetting.{propagate-forgets}
+use Rattle.theory.proofs.Asks.{Allowed, valid-step, step-allowed, asked-allowed, step-asker, step-holds}
 use Rattle.theory.proofs.Propagation.{initial-well, asked-well, asked-closes}
 
 -- A step ----------------------------------------------------------------------------------------------------------
@@ -124,12 +125,8 @@ module _ (f : Formula) (P : Explained → Type 0)
       go (some a) i ih q = acts a i (a .step) refl ih q
 
 module _ {n : ℕ} {f : Formula} (within : Within n f) where
-  module _ (s : State) (w : WellFormed n s) (a : Asked) {x t : Literal} (asked : step f s ≡ some a) (e : a .step ≡ Becomes x t) where
-    pub asked-allowed : Asks f s x t
-    asked-allowed = rw e at (step-allowed f s a asked)
-
-    asked-valid : Valid n s x t
-    asked-valid = valid-step within w asked-allowed
+  asked-valid : (s : State) → WellFormed n s → (a : Asked) {x t : Literal} → step f s ≡ some a → a .step ≡ Becomes x t → Valid n s x t
+  asked-valid s w a asked e = valid-step within w (asked-allowed f s a asked e)
 
   module _ {l : List ℕ} where
     accounted-asked : (e : Explained) (a : Asked) (x t : Literal) → step f (e .state) ≡ some a → a .step ≡ Becomes x t → Accounted n l e →
@@ -212,6 +209,7 @@ module _ {n : ℕ} {f : Formula} (within : Within n f) where
         becomes = t;
         asked = asked ∙ ap (λ (s : Step). some (askedBy k s)) i;
         its-variable = refl;
+        asker = rw i at (step-asker f (e .state) a asked);
         holder = step-holds f (e .state) a asked i;
       }
 
@@ -226,18 +224,18 @@ module _ {n : ℕ} {f : Formula} (within : Within n f) where
     reason-open p = (λ z. ⊎-elim (λ q. q) (λ i. absurd (List·Memᴰ·not-nil i)) (explains .accounted .none-given p z), explains .accounted .open-none p)
 
     -- and else the number of the clause that settled or tied it
-    pub reason-named : (p : ℕ) → u .reasons p ≢ 0 → SettledBy f p (u .reasons p)
-    reason-named = explains .named
+    pub reason-named : (p : ℕ) → u .state p ≢ Pos p → SettledBy f p (u .reasons p)
+    reason-named p h = explains .named p (λ z. h (reason-open p .0 z))
 
 -- Fuel ------------------------------------------------------------------------------------------------------------
 
 -- all fuel that is enough gives the same end
-pub propagate-fuel : {n : ℕ} {f : Formula} → Within n f → (k j : ℕ) (e : Explained) → WellFormed n (e .state) → opens (e .state) n < k → opens (e .state) n < j →
+pub explain-fuel : {n : ℕ} {f : Formula} → Within n f → (k j : ℕ) (e : Explained) → WellFormed n (e .state) → opens (e .state) n < k → opens (e .state) n < j →
     propagateBy k f e ≡ propagateBy j f e
 unfolding propagateBy
-propagate-fuel within zero j e w h i = absurd (omega arith)
-propagate-fuel within (suc k) zero e w h i = absurd (omega arith)
-propagate-fuel {n} {f} within (suc k) (suc j) e w h i = go (step f (e .state)) refl (propagate-fuel within k j)
+explain-fuel within zero j e w h i = absurd (omega arith)
+explain-fuel within (suc k) zero e w h i = absurd (omega arith)
+explain-fuel {n} {f} within (suc k) (suc j) e w h i = go (step f (e .state)) refl (explain-fuel within k j)
   where
     Same : Type 0
     Same = (u : Explained) → WellFormed n (u .state) → opens (u .state) n < k → opens (u .state) n < j → propagateBy k f u ≡ propagateBy j f u
@@ -250,16 +248,21 @@ propagate-fuel {n} {f} within (suc k) (suc j) e w h i = go (step f (e .state)) r
     go none q ih = refl
     go (some b) q ih = acts (b .clause .0) (b .step) (step-allowed f (e .state) b q) ih
 
+-- of settling without reasons too
+pub propagate-fuel : {n : ℕ} {f : Formula} → Within n f → (k j : ℕ) (s : State) → WellFormed n s → opens s n < k → opens s n < j → propagate k f s ≡ propagate j f s
+propagate-fuel {f = f} within k j s w h i =
+    sym (propagate-forgets f k (unexplained s)) ∙ ap forget (explain-fuel within k j (unexplained s) w h i) ∙ propagate-forgets f j (unexplained s)
+
 module _ {n : ℕ} {f : Formula} (within : Within n f) where
   -- settling from the state after a step ends where settling from the state before it does
   pub explain-step : (e : Explained) → WellFormed n (e .state) → (a : Asked) {x t : Literal} → step f (e .state) ≡ some a → a .step ≡ Becomes x t →
       explain n f (assignBy (a .clause .0) x t e) ≡ explain n f e
   unfolding propagateBy
   explain-step e w a asked i =
-      let q = asked-allowed within (e .state) w a asked i in
+      let q = asked-allowed f (e .state) a asked i in
       let less = asked-closes within w q in
       let few = opens-bound (e .state) n in
-      rw (asked, i) (propagate-fuel within (suc n) n _ (asked-well within w q) (omega (arith, less, few)) (omega (arith, less, few)))
+      rw (asked, i) (explain-fuel within (suc n) n _ (asked-well within w q) (omega (arith, less, few)) (omega (arith, less, few)))
 
   -- and so after any number of steps
   explain-onward : {l : List ℕ} (k : ℕ) (e u : Explained) → Accounted n l e → propagateBy k f e ≡ rest u → explain n f u ≡ explain n f e
@@ -268,8 +271,6 @@ module _ {n : ℕ} {f : Formula} (within : Within n f) where
       k e u (c, refl) q .1
 
   -- a reason given after some steps is there at the end
-  pub reason-kept : (k : ℕ) (e u : Explained) → propagateBy k f (unexplained initial) ≡ rest e → explain n f (unexplained initial) ≡ rest u →
-      (p : ℕ) → e .reasons p ≢ 0 → u .reasons p ≡ e .reasons p
-  reason-kept k e u q i =
-      reason-stays within (suc n) e u (settling-accounted within k (unexplained initial) e (initial-accounted n) q)
-      (explain-onward k (unexplained initial) e (initial-accounted n) q ∙ i)
+  pub reason-kept : {l : List ℕ} (k : ℕ) (e v u : Explained) → Accounted n l e → propagateBy k f e ≡ rest v → explain n f e ≡ rest u →
+      (p : ℕ) → v .reasons p ≢ 0 → u .reasons p ≡ v .reasons p
+  reason-kept k e v u c q i = reason-stays within (suc n) v u (settling-accounted within k e v c q) (explain-onward k e v c q ∙ i)

@@ -20,7 +20,7 @@ use Rattle.theory.proofs.Propagation.{Ends}
 use Rattle.theory.proofs.Live.{InLive, live-open, branch-least}
 use Rattle.theory.proofs.Splits.{settle-ends, rests-closed}
 use Rattle.theory.proofs.Forgetting.{settle-forgets}
-use Rattle.theory.proofs.Reasons.{Accounted, accounted-split, given-stays, settling-accounted, initial-accounted, reason-stays}
+use Rattle.theory.proofs.Reasons.{Accounted, accounted-split, given-stays, settling-accounted, initial-accounted, reason-kept}
 
 module _ {n : ℕ} {f : Formula} (within : Within n f) where
   -- a split, and the state that it is made in
@@ -69,23 +69,23 @@ module _ {n : ℕ} {f : Formula} (within : Within n f) where
     right-accounted : Accounted n (p ∷ l) v
     right-accounted = rw (split .right) (accounted-split before (valid TRUE refl))
 
-    sides-stay : (r : ℕ) → e .reasons r ≢ 0 → (u .reasons r ≡ e .reasons r) × (v .reasons r ≡ e .reasons r)
-    sides-stay r h = (rw (split .left) (at FALSE refl), rw (split .right) (at TRUE refl))
+    sides-stay : (k : ℕ) (w : Explained) → propagateBy k f e ≡ rest w → (r : ℕ) → w .reasons r ≢ 0 → (u .reasons r ≡ w .reasons r) × (v .reasons r ≡ w .reasons r)
+    sides-stay k w i r h = (rw (split .left) (at FALSE refl), rw (split .right) (at TRUE refl))
       where
-        settled-stays : split .state .reasons r ≡ e .reasons r
-        settled-stays = reason-stays within (suc n) e (split .state) c (split .settles) r h
+        settled-stays : split .state .reasons r ≡ w .reasons r
+        settled-stays = reason-kept within k e w (split .state) c i (split .settles) r h
 
-        at : (t : Literal) → var t ≡ 0 → assignBy 0 (Pos p) t (split .state) .reasons r ≡ e .reasons r
-        at t z = given-stays before (valid t z) 0 r (λ i. h (sym settled-stays ∙ i)) ∙ settled-stays
+        at : (t : Literal) → var t ≡ 0 → assignBy 0 (Pos p) t (split .state) .reasons r ≡ w .reasons r
+        at t z = given-stays before (valid t z) 0 r (λ j. h (sym settled-stays ∙ j)) ∙ settled-stays
 
   node-accounted : {l : List ℕ} {e : Explained} → Node n f l e → Accounted n l e
   node-accounted top = initial-accounted n
   node-accounted (left-out h q) = left-accounted (node-accounted h) q
   node-accounted (taken h q) = right-accounted (node-accounted h) q
 
-  -- "a reason once given stays" on both sides of a split too
-  pub node-stays : {l : List ℕ} {e u v : Explained} {p : ℕ} → Node n f l e → decideBy n f e ≡ branch p u v → (r : ℕ) → e .reasons r ≢ 0 →
-      (u .reasons r ≡ e .reasons r) × (v .reasons r ≡ e .reasons r)
+  -- a reason once given, before settling or after some of its steps, stays on both sides of the split
+  pub node-stays : {l : List ℕ} {e u v : Explained} {p : ℕ} → Node n f l e → decideBy n f e ≡ branch p u v →
+      (k : ℕ) (w : Explained) → propagateBy k f e ≡ rest w → (r : ℕ) → w .reasons r ≢ 0 → (u .reasons r ≡ w .reasons r) × (v .reasons r ≡ w .reasons r)
   node-stays h = sides-stay (node-accounted h)
 
   -- wherever the search settles, "a reason is 0 exactly where the placement is open, or a split decided it"

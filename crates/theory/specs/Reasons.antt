@@ -13,8 +13,9 @@ use Rattle.literal.specs.Literal.{TRUE, FALSE, var}
 use Rattle.theory.specs.declared.Asked.{Asked}
 use Rattle.theory.specs.declared.Step.{Step}
 use Rattle.theory.specs.declared.Step.the-variants.{DeadEnd, Becomes}
-use Rattle.theory.specs.Formula.{Formula, Choice, clauses}
-use Rattle.theory.specs.State.{State, initial, assign}
+use Rattle.theory.specs.Formula.{Clause, Formula, Choice, clauses}
+use Rattle.theory.specs.State.{State, initial, assign, standing}
+use Rattle.theory.specs.Rules.{rule1, rule2, rule3, rule4, rule5, rule6, rule7, rule8}
 use Rattle.theory.specs.Propagation.{askedBy, step, Settled, propagate}
 use Rattle.theory.specs.Propagation as settled
 use Rattle.theory.specs.Tree.{Decision, done, branch, Run, tree, Result, limited}
@@ -66,6 +67,7 @@ unfoldable pub propagateBy : ℕ → Formula → Explained → Explanation
 propagateBy zero f e = rest e
 propagateBy (suc k) f e = followBy (propagateBy k f) e (step f (e .state))
 
+-- as for `settle`, fuel n + 1 is enough
 abbrev pub explain : ℕ → Formula → Explained → Explanation
 explain n f e = propagateBy (suc n) f e
 
@@ -74,12 +76,30 @@ abbrev pub forget : Explanation → Settled
 forget dead = settled.dead
 forget (rest e) = settled.rest (e .state)
 
--- clause k, counted from 1, holds p, or a variable that is tied to p in the state
+-- What a reason says ---------------------------------------------------------------------------------------------
+
+-- the clause with number k, counted from 1
+abbrev pub numbered : Formula → ℕ → Clause
+numbered f k = getD f (k - 1) []
+
+abbrev pub clauseRules : List (Clause → Option Step)
+clauseRules = rule1 ∷ rule2 ∷ rule3 ∷ rule4 ∷ rule5 ∷ rule6 ∷ []
+
+abbrev pub pairRules : List (Clause → Clause → Option Step)
+pairRules = rule7 ∷ rule8 ∷ []
+
+-- a rule asks a step of clause k alone, or "for rules 7 and 8 the later of the two" is clause k, and j the earlier
+pub data AskedOf (f : Formula) (s : State) (k : ℕ) (d : Step) : Type 0 where
+  alone : (rule : Clause → Option Step) → List·Memᴰ rule clauseRules → rule (standing s (numbered f k)) ≡ some d → AskedOf f s k d
+  paired : (rule : Clause → Clause → Option Step) → List·Memᴰ rule pairRules → (j : ℕ) → 0 < j → j < k →
+      rule (standing s (numbered f j)) (standing s (numbered f k)) ≡ some d → AskedOf f s k d
+
+-- clause k holds p, or a variable that is tied to p in the state
 pub record Holds (f : Formula) (s : State) (k p : ℕ) : Type 0 where
   pub from-one : 0 < k
   pub is-clause : k ≤ length f
   pub entry : Literal
-  pub in-clause : List·Memᴰ entry (getD f (k - 1) [])
+  pub in-clause : List·Memᴰ entry (numbered f k)
   pub tied : var (s (var entry)) ≡ p
 
 -- what a reason says: after some steps of settling p is open, and clause k, which holds it, asks the next step, which settles or ties p
@@ -92,6 +112,7 @@ pub record SettledBy (f : Formula) (p k : ℕ) : Type 0 where
   pub becomes : Literal
   pub asked : step f state ≡ some (askedBy k (Becomes literal becomes))
   pub its-variable : var literal ≡ p
+  pub asker : AskedOf f state k (Becomes literal becomes)
   pub holder : Holds f state k p
 
 -- The search, were it to keep reasons -----------------------------------------------------------------------------

@@ -102,7 +102,7 @@ propagate-spec =
     (λ c κs.
     let t = c .before .before in
     let l = t .before .before .before .before .before .before .before .before .before .before .before in
-    (omega (arith, turn t .x-inside, l .before .pre .1 .1 .1), l .loop .inv .3))
+    (omega (arith, turn t .x-inside, turn t .t-inside, l .before .pre .1 .1 .1), l .loop .inv .3))
     (λ c κs.
     let a = c .before .before .before .before .before .before .before .before in
     let k = a .before .before .before .before .before .before .before in

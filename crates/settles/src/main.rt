@@ -1,0 +1,119 @@
+// What Settle costs, for bench/run.sh: a digit and a strip from standard input, and the strip's table is settled as often as a 1 with so many zeros says. It prints the
+// receipt, how many placements are not open, and how many groups settled or tied one.
+use literal::Literal;
+use receipt::Reading;
+use receipt::Settling;
+use trial::lists::bytes_from;
+use trial::lists::entry_at;
+use trial::lists::first_bytes;
+use trial::lists::more;
+use trial::lists::part;
+use trial::lists::size;
+
+const N: usize = Literal::MAX_VARIABLES;
+
+// The digit, the longest strip, and one byte past it.
+const INPUT: usize = 16386;
+
+fn rounds_of(digit: u8) -> usize {
+    match digit {
+        b'1' => 10,
+        b'2' => 100,
+        b'3' => 1000,
+        b'4' => 10000,
+        _ => 1,
+    }
+}
+
+// What a round is given depends on the answer before, so that none can be left out.
+fn if_settled(answer: Settling, given: usize) -> usize {
+    match answer {
+        Settling::Settled => given,
+        Settling::NoLayout => given,
+        Settling::Refused(_) => 0,
+    }
+}
+
+fn rounds(
+    count: usize,
+    table: &[i16],
+    n: usize,
+    list: &mut [i16],
+    reasons: &mut [u16],
+) -> Settling {
+    let mut answer = Settling::Settled;
+    for _ in 0..count {
+        answer = settle::settle(table, if_settled(answer, n), list, reasons);
+    }
+    answer
+}
+
+// Placement p stands for another entry than its own; at a dead end all are 0.
+fn is_step(entry: i16, p: usize) -> bool {
+    entry < 0 || 0 < entry && size(entry) != p
+}
+
+fn steps(list: &[i16], n: usize) -> usize {
+    let mut found = 0;
+    for i in 0..n {
+        if is_step(entry_at(list, i), i + 1) {
+            found = more(found);
+        }
+    }
+    found
+}
+
+fn wide(group: u16) -> usize {
+    group as usize
+}
+
+fn names_group(reasons: &[u16], group: usize) -> bool {
+    for i in 0..reasons.len() {
+        if wide(reasons[i]) == group {
+            return true;
+        }
+    }
+    false
+}
+
+fn groups_named(reasons: &[u16]) -> usize {
+    let mut found = 0;
+    for k in 0..Literal::MAX_CLAUSES {
+        if names_group(reasons, k + 1) {
+            found = more(found);
+        }
+    }
+    found
+}
+
+fn settle_and_show(count: usize, table: &[i16], n: usize) {
+    let mut list = [0i16; N];
+    let mut reasons = [0u16; N];
+    let answer = rounds(count, table, n, &mut list, &mut reasons);
+    show::receipt(answer.receipt());
+    show::text(b":");
+    show::number(steps(&list, n) as u64);
+    show::number(groups_named(&reasons) as u64);
+    show::text(b"\n");
+}
+
+fn run(digit: u8, strip: &[u8]) {
+    let mut table = [0i16; Literal::MAX_TABLE];
+    let answer = strip::read(strip, &mut table);
+    match answer {
+        Reading::Read { variables, used } => {
+            settle_and_show(rounds_of(digit), part(&table, 0, used), variables);
+        }
+        Reading::Refused(refusal) => {
+            show::receipt(refusal.receipt());
+            show::text(b"\n");
+        }
+    }
+}
+
+fn main() {
+    let mut input = [0u8; INPUT];
+    let length = io::read_full(0, &mut input);
+    let digit = input[0];
+    run(digit, bytes_from(first_bytes(&input, length), 1));
+}
