@@ -91,17 +91,17 @@ fn first_partner(
         return Answer::Nothing;
     }
     let counted = clause::counts_at(table, values, g);
-    let mut k = clause.0 + 1;
+    let mut later = clause.0 + 1;
     let mut h = clause::next_clause(table, g);
     while h < table.len() {
         let asked = rules::asks_pair(table, values, rule, g, &counted, h);
         if let Fit::Asks(step) = asked {
             return Answer::Asks(Asked {
-                clause: ClauseNumber(k),
+                clause: ClauseNumber(later),
                 step,
             });
         }
-        k += 1;
+        later += 1;
         h = clause::next_clause(table, h);
     }
     Answer::Nothing

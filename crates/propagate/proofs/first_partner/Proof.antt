@@ -34,7 +34,7 @@ returns-2 c =
     let k = c .before in
     let q = k .before .before in
     let l = q .before .before .before in
-    first-asks _ _ (l .loop .k) (advances (l .loop .inv .0) (q .before .before .loop-test .taken) refl) (rw (k .asked .given .1) at (q .asks-pair .ensures))
+    first-asks _ _ (l .loop .later) (advances (l .loop .inv .0) (q .before .before .loop-test .taken) refl) (rw (k .asked .given .1) at (q .asks-pair .ensures))
     ∙ l .loop .inv .2
 
 -- the next one
@@ -51,7 +51,7 @@ loop-again c =
     let l = q .before .before .before in (
       further c .begins,
       omega (arith, l .loop .inv .1, further c .further),
-      first-passes _ _ (l .loop .k) (further c) (rw (e .enum-told .given .1) at (q .asks-pair .ensures)) ∙ l .loop .inv .2,
+      first-passes _ _ (l .loop .later) (further c) (rw (e .enum-told .given .1) at (q .asks-pair .ensures)) ∙ l .loop .inv .2,
     )
 
 pub first-partner-spec : {M : Type 1} → statement M
@@ -81,4 +81,4 @@ first-partner-spec =
     loop-again
     (λ c.
     let l = c .before in
-    first-end _ _ (l .loop .k) _ (l .loop .h) (c .loop-test .left) ∙ l .loop .inv .2))
+    first-end _ _ (l .loop .later) _ (l .loop .h) (c .loop-test .left) ∙ l .loop .inv .2))
