@@ -48,47 +48,47 @@ NotRefused r = (w : Refusal) → ¬ (r ≡ settling.Refused w)
 pub record Call (n : ℕ) (t l : List ℤ) (m : List ℕ) (r : Settling) (l′ : List ℤ) (m′ : List ℕ) : Type 0 where
   pub is : called r l′ m′ ≡ settleCall n t l m
 
--- a call that is accepted: a table within the limits, and room for n elements in both lists
-pub record Accepting (n : ℕ) (t l : List ℤ) (m : List ℕ) : Type 0 where
-  pub within : WithinLimits n t
+-- "within the limits of document 01, with room lent for the results"
+pub record Acceptable (n : ℕ) (t l : List ℤ) (m : List ℕ) : Type 0 where
+  pub table : WithinLimits n t
   pub list-room : n ≤ length l
   pub reasons-room : n ≤ length m
 
--- the settling that the call is about
-abbrev pub settling-of : ℕ → List ℤ → Explanation
-settling-of n t = explain n (clauses t) (unexplained initial)
+-- where settling of the table ends, with its reasons
+abbrev pub explanationOf : ℕ → List ℤ → Explanation
+explanationOf n t = explain n (clauses t) (unexplained initial)
 
 -- the three ways in which a call ends
 data Way (n : ℕ) (t l : List ℤ) (m : List ℕ) : Settling → List ℤ → List ℕ → Type 0 where
-  refused : (w : Refusal) → ¬ Accepting n t l m → Way n t l m (settling.Refused w) l m
-  dead-end : Accepting n t l m → settling-of n t ≡ dead → Way n t l m settling.NoLayout (over n (replicate n (posℤ 0)) l) (over n (replicate n 0) m)
-  settled : Accepting n t l m → (u : Explained) → settling-of n t ≡ rest u →
+  refused : (w : Refusal) → ¬ Acceptable n t l m → Way n t l m (settling.Refused w) l m
+  dead-end : Acceptable n t l m → explanationOf n t ≡ dead → Way n t l m settling.NoLayout (over n (replicate n (posℤ 0)) l) (over n (replicate n 0) m)
+  settled : Acceptable n t l m → (u : Explained) → explanationOf n t ≡ rest u →
       Way n t l m settling.Settled (over n (upTo (λ p. stateEntry (u .state p)) n) l) (over n (upTo (u .reasons) n) m)
 
 abbrev By : ℕ → List ℤ → List ℤ → List ℕ → SettleCall → Type 0
 By n t l m s = Way n t l m (s .answer) (s .list) (s .reasons)
 
 -- settling as it was
-forgotten : (n : ℕ) (t : List ℤ) {o : Explanation} → settling-of n t ≡ o → settle n (clauses t) initial ≡ forget o
+forgotten : (n : ℕ) (t : List ℤ) {o : Explanation} → explanationOf n t ≡ o → settle n (clauses t) initial ≡ forget o
 forgotten n t e = sym (settle-forgets n (clauses t) (unexplained initial)) ∙ ap forget e
 
 way : {n : ℕ} {t l : List ℤ} {m : List ℕ} {r : Settling} {l′ : List ℤ} {m′ : List ℕ} → Call n t l m r l′ m′ → Way n t l m r l′ m′
 unfolding settleCall
 way {n} {t} {l} {m} c = subst (By n t l m) (sym (c .is)) (checked (check n t) refl)
   where
-    ended : Accepting n t l m → (o : Explanation) → settling-of n t ≡ o → By n t l m (settledCall n (clauses t) l m)
+    ended : Acceptable n t l m → (o : Explanation) → explanationOf n t ≡ o → By n t l m (settledCall n (clauses t) l m)
     ended a dead e = rw (e, forgotten n t e) (dead-end a e)
     ended a (rest u) e = rw (e, forgotten n t e) (settled a u e)
 
     checked : (k : Checked) → check n t ≡ k → By n t l m (settleChecked k n t l m)
-    checked (Refused w) e = refused w (λ h. let z : _≡_ {A = ℕ} 0 1 = cc (accepted-exactly n t .1 (h .within)) in omega arith)
+    checked (Refused w) e = refused w (λ h. let z : _≡_ {A = ℕ} 0 1 = cc (accepted-exactly n t .1 (h .table)) in omega arith)
     checked Passed e = cond-ind (By n t l m) _ _ (ltb (length l) n)
         (λ b. refused _ (λ h. omega (arith, h .list-room, ltb-true (length l) n b)))
         (λ b. cond-ind (By n t l m) _ _ (ltb (length m) n)
         (λ d. refused _ (λ h. omega (arith, h .reasons-room, ltb-true (length m) n d)))
         (λ d.
-        ended (record { within = accepted-sizes n t e; list-room = ltb-false (length l) n b; reasons-room = ltb-false (length m) n d })
-        (settling-of n t) refl))
+        ended (record { table = accepted-sizes n t e; list-room = ltb-false (length l) n b; reasons-room = ltb-false (length m) n d })
+        (explanationOf n t) refl))
 
 within-of : {n : ℕ} {t : List ℤ} → WithinLimits n t → Within n (clauses t)
 within-of {n} {t} w = accepted-within n t (accepted-exactly n t .1 w)
@@ -105,7 +105,7 @@ first-of n old a = take-at (replicate n a) (drop n old) n (length-replicate n a)
 record End (n : ℕ) (t l′ : List ℤ) (m′ : List ℕ) : Type 0 where
   limits : WithinLimits n t
   state : Explained
-  is : settling-of n t ≡ rest state
+  is : explanationOf n t ≡ rest state
   entry : (i : ℕ) → i < n → getD l′ i (posℤ 0) ≡ stateEntry (state .state (suc i))
   reason : (i : ℕ) → i < n → getD m′ i 0 ≡ state .reasons (suc i)
 
@@ -113,7 +113,7 @@ end : {n : ℕ} {t l : List ℤ} {m : List ℕ} {r : Settling} {l′ : List ℤ}
 end (refused w h) q = absurd (not-refused (w .fault) 13 refl q)
 end (dead-end a e) q = absurd (omega arith)
 end {n} {t} {l} {m} (settled a u e) q = record {
-  limits = a .within;
+  limits = a .table;
   state = u;
   is = e;
   entry = λ i h. written-at (λ p. stateEntry (u .state p)) n l i (posℤ 0) h;
@@ -122,10 +122,10 @@ end {n} {t} {l} {m} (settled a u e) q = record {
 
 module _ {n : ℕ} {t l : List ℤ} {m : List ℕ} {r : Settling} {l′ : List ℤ} {m′ : List ℕ} (c : Call n t l m r l′ m′) where
   -- demand 1: "Every table .. within the limits of document 01, with room lent for the results, is accepted"; "Every other input is refused"
-  pub settle-accepts : NotRefused r ↔ Accepting n t l m
+  pub settle-accepts : NotRefused r ↔ Acceptable n t l m
   settle-accepts = go (way c)
     where
-      go : {r : Settling} {l′ : List ℤ} {m′ : List ℕ} → Way n t l m r l′ m′ → NotRefused r ↔ Accepting n t l m
+      go : {r : Settling} {l′ : List ℤ} {m′ : List ℕ} → Way n t l m r l′ m′ → NotRefused r ↔ Acceptable n t l m
       go (refused w h) = (λ k. absurd (k w refl), λ k. absurd (h k))
       go (dead-end a e) = (λ _. a, λ _ x q. let z : _≡_ {A = ℕ} 0 1 = cc in omega arith)
       go (settled a u e) = (λ _. a, λ _ x q. let z : _≡_ {A = ℕ} 0 1 = cc in omega arith)
@@ -204,7 +204,7 @@ module _ {n : ℕ} {t l : List ℤ} {m : List ℕ} {r : Settling} {l′ : List �
     where
       go : {r : Settling} {l′ : List ℤ} {m′ : List ℕ} → Way n t l m r l′ m′ → numberOf r ≡ 10 → (f : Choice) → ¬ Solution n (clauses t) f
       go (refused w h) q = absurd (not-refused (w .fault) 10 refl q)
-      go (dead-end a e) q = dead-end-none (within-of (a .within)) (forgotten n t e)
+      go (dead-end a e) q = dead-end-none (within-of (a .table)) (forgotten n t e)
       go (settled a u e) q = absurd (omega arith)
 
   -- 13: a choice is a layout exactly when it agrees with the list and meets the groups as they stand by it: "Simplifying never gains or loses a choice."
@@ -215,8 +215,8 @@ module _ {n : ℕ} {t l : List ℤ} {m : List ℕ} {r : Settling} {l′ : List �
       go (refused w h) q = absurd (not-refused (w .fault) 13 refl q)
       go (dead-end a e) q = absurd (omega arith)
       go (settled a u e) q =
-          let w = within-of (a .within) in
-          rw (list-read (a .within .variables) (settled-well w (u .state) (forgotten n t e)) l) (settled-remains w (u .state) (forgotten n t e))
+          let w = within-of (a .table) in
+          rw (list-read (a .table .variables) (settled-well w (u .state) (forgotten n t e)) l) (settled-remains w (u .state) (forgotten n t e))
 
   -- A5, which rule settled it ---------------------------------------------------------------------------------------
 
@@ -224,7 +224,7 @@ module _ {n : ℕ} {t l : List ℤ} {m : List ℕ} {r : Settling} {l′ : List �
   unfolding settleCall
   settles k =
       let a = settle-accepts .0 k in
-      let e : Accepted n t = accepted-exactly n t .1 (a .within) in
+      let e : Accepted n t = accepted-exactly n t .1 (a .table) in
       c .is ∙ rw (e, le-ltb (length l) n (a .list-room), le-ltb (length m) n (a .reasons-room))
 
   -- without the reasons it is settling as it was: the same number, and the same list
@@ -232,7 +232,7 @@ module _ {n : ℕ} {t l : List ℤ} {m : List ℕ} {r : Settling} {l′ : List �
   settle-as-before k = (ap (λ (s : SettleCall). s .answer) (settles k), ap (λ (s : SettleCall). s .list) (settles k))
 
   -- what the reasons are: those of settling's own steps
-  pub settle-reasons : NotRefused r → m′ ≡ over n (reasonList n (settling-of n t)) m
+  pub settle-reasons : NotRefused r → m′ ≡ over n (reasonList n (explanationOf n t)) m
   settle-reasons k = ap (λ (s : SettleCall). s .reasons) (settles k)
 
   module _ (done : numberOf r ≡ 13) where
