@@ -308,6 +308,16 @@ def waiting(ties, first, clashing):
     return name.filing(groups)
 
 
+def released(classes, size):
+    """Rule 8 fits the last pair and a placement is left out; then rule 6 ties every class, one placement after the other, to its first, and all other groups hold them."""
+    name = Namer()
+    member = [[name("class", j, i) for i in range(size)] for j in range(classes)]
+    c, x, y, d = (name(letter) for letter in "cxyd")
+    ties = [[c, first, -other] for first, *others in member for other in others]
+    groups = [[of[(7 * k + 3 * j) % size] for j, of in enumerate(member)] for k in range(MOST_GROUPS - 2 - len(ties))]
+    return name.filing(groups + ties + [[x, y, c], [-x, -y, d]])
+
+
 def one_long_group(size):
     """A split for every placement but two: the deepest tree there is."""
     return size, [list(range(1, size + 1))]
@@ -344,6 +354,7 @@ ALL = {
 SETTLED = {
     "waiting": lambda: waiting(124, 250, False),
     "waitclash": lambda: waiting(124, 250, True),
+    "released": lambda: released(4, 60),
 }
 
 
