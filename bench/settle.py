@@ -33,7 +33,7 @@ def zeros_for(strip):
 
 
 def one_settle(strip, nothing):
-    """Milliseconds, and the words printed: the receipt's four, the placements that are not open, the groups named."""
+    """Milliseconds, and the words printed: the receipt's four, the placements that are not open, and those that have a reason."""
     zeros = zeros_for(strip)
     seconds, printed = best_run(zeros, strip)
     return 1e3 * (seconds - nothing) / 10 ** zeros, printed.replace(":", "").split()

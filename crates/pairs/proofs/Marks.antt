@@ -6,8 +6,8 @@ use Prim.Native.Nat.{ℕ, _/_, _<_, _≤_}
 use native.Mathlib.Decide.{ℕ-discrete as decEq}
 use native.Mathlib.Omega.{arith}
 use lib.ListN.{getD, set, length, length-set, replicate, length-replicate}
-use Rattle.general.specs.Lists.{getD-throughout}
 use lib.Seq.{getD-set-same, getD-set-other}
+use Rattle.general.specs.Lists.{getD-throughout}
 use Rattle.literal.specs.declared.Literal.{Literal}
 use Rattle.literal.specs.Literal.{FALSE, var, codeOf, literalAt, maxVariables}
 use Rattle.literal.proofs.Codes.{literalAt-codeOf, var-code}

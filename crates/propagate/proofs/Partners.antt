@@ -10,9 +10,9 @@ use native.Mathlib.Omega.{arith}
 use borrow.Author.Tests.{ltb-false}
 use lib.IntN.{ℤ}
 use lib.ListN.{length, set, drop, drop-of-length-le, replicate, length-set, length-replicate}
-use Rattle.general.specs.Lists.{getD-throughout}
 use lib.Seq.{getD-set-other}
 use Rattle.general.specs.Booleans.{true-not-false}
+use Rattle.general.specs.Lists.{getD-throughout}
 use Rattle.literal.specs.declared.Literal.{Literal}
 use Rattle.literal.specs.Literal.{var, isOpen, maxTable}
 use Rattle.theory.specs.declared.Step.{Step}

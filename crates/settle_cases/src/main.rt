@@ -1,15 +1,9 @@
 // Settles document 01's filings, tables in which each rule settles or ties a placement, chains of ties, and refused calls. Each line is the answer's number, place,
 // count and group, the first seven elements of the state list and the first seven of the reason list, all 99 before the call.
-ghost use Prim.Native.Nat.{_≤_};
+use trial::lists::at_most;
 
 // Both lists have so many elements.
 const ROOM: usize = 7;
-
-fn at_most(room: usize) -> usize
-    ensures { λ r. ⌜ r ≤ 7 ⌝ }
-{
-    if room < ROOM { room } else { ROOM }
-}
 
 fn show_lists(list: &[i16; ROOM], reasons: &[u16; ROOM]) {
     show::text(b":");
@@ -22,8 +16,8 @@ fn show_lists(list: &[i16; ROOM], reasons: &[u16; ROOM]) {
 fn try_rooms(table: &[i16], n: usize, room: usize, reason_room: usize) {
     let mut list = [99i16; ROOM];
     let mut reasons = [99u16; ROOM];
-    let lent = at_most(room);
-    let lent_reasons = at_most(reason_room);
+    let lent = at_most(room, ROOM);
+    let lent_reasons = at_most(reason_room, ROOM);
     let answer = settle::settle(table, n, &mut list[0..lent], &mut reasons[0..lent_reasons]);
     show::receipt(answer.receipt());
     show_lists(&list, &reasons);

@@ -1,5 +1,5 @@
 // What Settle costs, for bench/run.sh: a digit and a strip from standard input, and the strip's table is settled as often as a 1 with so many zeros says. It prints the
-// receipt, how many placements are not open, and how many groups settled or tied one.
+// receipt, how many placements are not open, and how many have a reason.
 use literal::Literal;
 use receipt::Reading;
 use receipt::Settling;
@@ -7,6 +7,7 @@ use trial::lists::bytes_from;
 use trial::lists::entry_at;
 use trial::lists::first_bytes;
 use trial::lists::more;
+use trial::lists::number_at;
 use trial::lists::part;
 use trial::lists::size;
 
@@ -63,23 +64,10 @@ fn steps(list: &[i16], n: usize) -> usize {
     found
 }
 
-fn wide(group: u16) -> usize {
-    group as usize
-}
-
-fn names_group(reasons: &[u16], group: usize) -> bool {
-    for i in 0..reasons.len() {
-        if wide(reasons[i]) == group {
-            return true;
-        }
-    }
-    false
-}
-
-fn groups_named(reasons: &[u16]) -> usize {
+fn reasons_given(reasons: &[u16]) -> usize {
     let mut found = 0;
-    for k in 0..Literal::MAX_CLAUSES {
-        if names_group(reasons, k + 1) {
+    for i in 0..reasons.len() {
+        if number_at(reasons, i) != 0 {
             found = more(found);
         }
     }
@@ -93,7 +81,7 @@ fn settle_and_show(count: usize, table: &[i16], n: usize) {
     show::receipt(answer.receipt());
     show::text(b":");
     show::number(steps(&list, n) as u64);
-    show::number(groups_named(&reasons) as u64);
+    show::number(reasons_given(&reasons) as u64);
     show::text(b"\n");
 }
 

@@ -77,6 +77,25 @@ module _ {n : ℕ} {f : Formula} (within : Within n f) where
       go none e ih = record { well = w; rests = e; refines = refines-refl w; coarsest = λ v k q. q; fewer = le-refl _ }
       go (some b) e ih = acts (b .step) (step-allowed f s b e) ih
 
+-- one step more of settling
+pub propagate-more : (f : Formula) (m : ℕ) (s u : State) (a : Asked) {x t : Literal} → propagate m f s ≡ rest u → step f u ≡ some a → a .step ≡ Becomes x t →
+    propagate (suc m) f s ≡ rest (assign x t u)
+unfolding propagate
+propagate-more f zero s u a q i j = let h : s ≡ u = cc in rw (h, i, j)
+propagate-more f (suc m) s u a {x} {t} q i j = go (step f s) refl (λ v. propagate-more f m v u a) q
+  where
+    End : State → Type 0
+    End v = propagate m f v ≡ rest u → step f u ≡ some a → a .step ≡ Becomes x t → propagate (suc m) f v ≡ rest (assign x t u)
+
+    acts : (d : Step) → ((v : State) → End v) → act (propagate m f) s d ≡ rest u → act (propagate (suc m) f) s d ≡ rest (assign x t u)
+    acts DeadEnd ih q = absurd (let z : _≡_ {A = ℕ} 0 1 = cc in omega arith)
+    acts (Becomes y d) ih q = ih (assign y d s) q i j
+
+    go : (o : Option Asked) → step f s ≡ o → ((v : State) → End v) → follow (propagate m f) s o ≡ rest u →
+        follow (propagate (suc m) f) s o ≡ rest (assign x t u)
+    go none h ih q = absurd (let z : s ≡ u = cc in let y : _≡_ {A = ℕ} 0 1 = cc in omega arith)
+    go (some b) h ih q = acts (b .step) ih q
+
 -- In any order ---------------------------------------------------------------------------------------------------
 
 -- m steps, each of which some rule asks, lead from s to u

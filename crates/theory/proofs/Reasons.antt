@@ -16,13 +16,13 @@ use Rattle.theory.specs.declared.Step.{Step}
 use Rattle.theory.specs.declared.Step.the-variants.{DeadEnd, Becomes}
 use Rattle.theory.specs.Formula.{Formula, Within}
 use Rattle.theory.specs.State.{State, initial, assign, opens, WellFormed}
-use Rattle.theory.specs.Propagation.{askedBy, step, act, follow, propagate}
+use Rattle.theory.specs.Propagation.{askedBy, step, propagate}
 use Rattle.theory.specs.Propagation as settled
 use Rattle.theory.specs.Reasons.{Explained, unexplained, assignBy, rest, actBy, followBy, propagateBy, explain, forget, SettledBy}
 use Rattle.theory.proofs.States.{Valid, fixed-pos, root-fixed, fixed-root, assign-well, assign-other, assign-self, opens-bound}
 use Rattle.theory.proofs.Forgetting.{propagate-forgets}
 use Rattle.theory.proofs.Asks.{Allowed, valid-step, step-allowed, asked-allowed, step-asker, step-holds}
-use Rattle.theory.proofs.Propagation.{initial-well, asked-well, asked-closes}
+use Rattle.theory.proofs.Propagation.{initial-well, asked-well, asked-closes, propagate-more}
 
 -- A step ----------------------------------------------------------------------------------------------------------
 
@@ -144,25 +144,6 @@ module _ {n : ℕ} {f : Formula} (within : Within n f) where
           given-stays (g .0) (asked-valid (v .state) (g .0 .well) a asked i) (a .clause .0) p (λ z. h (sym (g .1) ∙ z)) ∙ g .1,
         ))
         k e u (c, refl) q .1
-
--- one step more
-propagate-more : (f : Formula) (m : ℕ) (s u : State) (a : Asked) {x t : Literal} → propagate m f s ≡ settled.rest u → step f u ≡ some a → a .step ≡ Becomes x t →
-    propagate (suc m) f s ≡ settled.rest (assign x t u)
-unfolding propagate
-propagate-more f zero s u a q i j = let h : s ≡ u = cc in rw (h, i, j)
-propagate-more f (suc m) s u a {x} {t} q i j = go (step f s) refl (λ v. propagate-more f m v u a) q
-  where
-    End : State → Type 0
-    End v = propagate m f v ≡ settled.rest u → step f u ≡ some a → a .step ≡ Becomes x t → propagate (suc m) f v ≡ settled.rest (assign x t u)
-
-    acts : (d : Step) → ((v : State) → End v) → act (propagate m f) s d ≡ settled.rest u → act (propagate (suc m) f) s d ≡ settled.rest (assign x t u)
-    acts DeadEnd ih q = absurd (let z : _≡_ {A = ℕ} 0 1 = cc in omega arith)
-    acts (Becomes y d) ih q = ih (assign y d s) q i j
-
-    go : (o : Option Asked) → step f s ≡ o → ((v : State) → End v) → follow (propagate m f) s o ≡ settled.rest u →
-        follow (propagate (suc m) f) s o ≡ settled.rest (assign x t u)
-    go none h ih q = absurd (let z : s ≡ u = cc in let y : _≡_ {A = ℕ} 0 1 = cc in omega arith)
-    go (some b) h ih q = acts (b .step) ih q
 
 pub initial-accounted : (n : ℕ) → Accounted n [] (unexplained initial)
 initial-accounted n = record {

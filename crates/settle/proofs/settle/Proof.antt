@@ -55,7 +55,7 @@ settle-spec =
     (h .before .if1 .left, (few (h .before .before), p .propagate .ensures .1)))
     (λ c κs.
     let h = c .before .before .before .before .before .before .before .before .before .before .before .before in
-    (h .if2 .left, few (h .before .before)))
+    (search needs, few (h .before .before)))
     (λ c. search needs)
     (λ c. search needs)
     (λ c.

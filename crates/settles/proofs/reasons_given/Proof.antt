@@ -1,22 +1,21 @@
--- `groups_named` is safe and ends.
+-- `reasons_given` is safe and ends.
 use Prim.Native.Nat.{_-_}
 use borrow.Author.Needs.{needs}
-use Rattle.settles.proofs.groups_named.Statement.{statement}
-use Rattle.settles.proofs.groups_named.Tie as tie
+use Rattle.settles.proofs.reasons_given.Statement.{statement}
+use Rattle.settles.proofs.reasons_given.Tie as tie
 
 abbrev Inv-loop : tie.InvT-loop
-Inv-loop reasons found₀ k₀ found k = Unit {0}
+Inv-loop reasons found₀ i₀ i-end found i = Unit {0}
 
 abbrev μ-loop : tie.MeasureT-loop
-μ-loop reasons found₀ k₀ found k = 512 - k
+μ-loop reasons found₀ i₀ i-end found i = i-end - i
 
-pub groups-named-spec : {M : Type 1} → statement M
-groups-named-spec =
+pub reasons-given-spec : {M : Type 1} → statement M
+reasons-given-spec =
     tie.close
     (tie.spec
     Inv-loop
     μ-loop
-    (λ c. search needs)
     (λ c. search needs)
     (λ c κs. search needs)
     (λ c κs. search needs)
