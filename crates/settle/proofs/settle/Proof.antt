@@ -1,6 +1,7 @@
 -- `settle` meets its contract: the refusals in their order, and else what propagation ends in.
 use mathlib.Core.Path.{_≡_, sym, _∙_}
 use Prim.Native.Nat.{_≤_}
+use native.Mathlib.Omega.{arith}
 use borrow.Author.Needs.{needs}
 use Rattle.literal.specs.Literal.{maxVariables}
 use Rattle.receipt.specs.declared.Checked.the-variants.{Passed}
@@ -55,7 +56,7 @@ settle-spec =
     (h .before .if1 .left, (few (h .before .before), p .propagate .ensures .1)))
     (λ c κs.
     let h = c .before .before .before .before .before .before .before .before .before .before .before .before in
-    (search needs, few (h .before .before)))
+    (search needs, omega (arith, few (h .before .before))))
     (λ c. search needs)
     (λ c. search needs)
     (λ c.
