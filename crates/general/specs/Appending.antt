@@ -1,7 +1,7 @@
 -- Appending to what stands at the start of a list: nothing, one element, and one list after another.
 use mathlib.Core.Path.{_≡_, refl, ap, sym, _∙_}
 use mathlib.Core.List.{List, [], _∷_, _++_, append-assoc}
-use Prim.Native.Nat.{ℕ, _+_, _≤_, _<_}
+use Prim.Native.Nat.{ℕ, _+_, _-_, _≤_, _<_}
 use native.Mathlib.Numerals.{add-one}
 use native.Mathlib.Omega.{arith}
 use lib.ListN.{length, take, drop, set, length-append, length-drop, take-append-drop}
@@ -41,7 +41,12 @@ module _ {A : Type 0} where
         ∙ drop-append-add (head old at new) (drop next old) n
         ∙ drop-drop n next old
 
-    take-next : take next list ≡ head old at new
+    -- what stands from `next` on is as it was
+    pub appended-past : (m : ℕ) → next ≤ m → drop m list ≡ drop m old
+    appended-past m h = let e : next + (m - next) ≡ m = omega arith in rw e at (past-next (m - next))
+
+    -- what stands up to `next`
+    pub take-next : take next list ≡ head old at new
     take-next = rw list-is (take-at (head old at new) (drop next old) next head-length)
 
   pub append-both : {l₀ l₁ l₂ a b : List A} {at p q : ℕ} → Appended l₀ at a l₁ p → Appended l₁ p b l₂ q → Appended l₀ at (a ++ b) l₂ q

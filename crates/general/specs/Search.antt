@@ -1,13 +1,15 @@
--- The first element of a list that passes a test, and what it says that there is one, or none.
+-- The first element of a list that passes a test, and what it says that there is one, or none; and all that pass.
 use mathlib.Core.Path.{_≡_, refl, ap, sym, _∙_}
 use mathlib.Core.Bool.{Bool, true, false, _||_, cond, or-false, or-assoc}
 use mathlib.Core.Logic.{_⊎_, inl, inr, ⊎-elim}
 use mathlib.Core.Option.{Option, none, some}
 use mathlib.Core.List.{List, [], _∷_, _++_, List·Memᴰ, List·Memᴰ·head, List·Memᴰ·tail, List·Memᴰ·not-nil, List·Memᴰ·cases-cons}
-use Prim.Native.Nat.{ℕ, zero, suc, _+_, _<_}
+use Prim.Native.Nat.{ℕ, zero, suc, _+_, _≤_, _<_}
+use native.Mathlib.Decide.{ℕ-discrete}
 use native.Mathlib.Omega.{arith}
 use lib.ListN.{length, getD}
-use Rattle.general.specs.Booleans.{true-not-false}
+use Rattle.general.specs.Booleans.{true-not-false, cond-ind}
+use Rattle.general.specs.Lists.{from}
 
 module _ {A : Type 0} (test : A → Bool) where
   unfoldable pub find : List A → Option A
@@ -70,6 +72,34 @@ module _ {A : Type 0} (test : A → Bool) where
   none-placed i [] h = refl
   none-placed i (x ∷ l) h = rw (h x (List·Memᴰ·head refl)) (none-placed (suc i) l (λ y m. h y (List·Memᴰ·tail m)))
 
+  -- those that pass, in their order
+  unfoldable pub filter : List A → List A
+  filter [] = []
+  filter (x ∷ l) = cond (test x) (x ∷ filter l) (filter l)
+
+  -- an element that passes is among them
+  pub mem-filter : (l : List A) (x : A) → List·Memᴰ x l → test x ≡ true → List·Memᴰ x (filter l)
+  unfolding filter
+  mem-filter [] x m e = absurd (List·Memᴰ·not-nil m)
+  mem-filter (y ∷ l) x m e = cond-ind (List·Memᴰ x) (y ∷ filter l) (filter l) (test y)
+      (λ q. ⊎-elim (λ p. List·Memᴰ·head p) (λ k. List·Memᴰ·tail (mem-filter l x k e)) (List·Memᴰ·cases-cons m))
+      (λ q. ⊎-elim (λ p. absurd (true-not-false e (ap test p ∙ q))) (λ k. mem-filter l x k e) (List·Memᴰ·cases-cons m))
+
+  -- and they are elements that pass
+  pub filter-mem : (l : List A) (x : A) → List·Memᴰ x (filter l) → List·Memᴰ x l × (test x ≡ true)
+  unfolding filter
+  filter-mem [] x = λ m. absurd (List·Memᴰ·not-nil m)
+  filter-mem (y ∷ l) x = cond-ind (λ r. List·Memᴰ x r → List·Memᴰ x (y ∷ l) × (test x ≡ true)) (y ∷ filter l) (filter l) (test y)
+      (λ q m. ⊎-elim (λ p. (List·Memᴰ·head p, ap test p ∙ q)) (λ k. let w = filter-mem l x k in (List·Memᴰ·tail (w .0), w .1)) (List·Memᴰ·cases-cons m))
+      (λ q m. let w = filter-mem l x m in (List·Memᴰ·tail (w .0), w .1))
+
+  -- no more than there were
+  pub filter-length : (l : List A) → length (filter l) ≤ length l
+  unfolding filter
+  filter-length [] = omega arith
+  filter-length (x ∷ l) = cond-ind (λ r. length r ≤ suc (length l)) (x ∷ filter l) (filter l) (test x)
+      (λ q. omega (arith, filter-length l)) (λ q. omega (arith, filter-length l))
+
   unfoldable pub any : List A → Bool
   any [] = false
   any (x ∷ l) = test x || any l
@@ -126,3 +156,22 @@ module _ {A : Type 0} (test : A → Bool) where
       go true q m ih = refl
       go false q (inl p) ih = absurd (true-not-false e (ap test p ∙ q))
       go false q (inr k) ih = ih k e
+
+-- the first of the numbers k, k + 1, .. that passes, of n of them
+module _ (test : ℕ → Bool) where
+  abbrev pub FindsFrom : ℕ → ℕ → Option ℕ → Type 0
+  FindsFrom k n none = (i : ℕ) → k ≤ i → i < k + n → test i ≡ false
+  FindsFrom k n (some p) = (k ≤ p) × (p < k + n) × (test p ≡ true) × ((i : ℕ) → k ≤ i → i < p → test i ≡ false)
+
+  pub find-from : (k n : ℕ) → FindsFrom k n (find test (from (λ i. i) k n))
+  unfolding find from
+  find-from k zero = λ i l h. absurd (omega arith)
+  find-from k (suc n) = go (test k) refl (find test (from (λ i. i) (suc k) n)) (find-from (suc k) n)
+    where
+      later : test k ≡ false → (i : ℕ) → k ≤ i → (suc k ≤ i → test i ≡ false) → test i ≡ false
+      later e i l h = elim (ℕ-discrete i k) [ yes q ↦ rw q e | no q ↦ h (omega arith) ]
+
+      go : (b : Bool) → test k ≡ b → (o : Option ℕ) → FindsFrom (suc k) n o → FindsFrom k (suc n) (cond b (some k) o)
+      go true e o w = (omega arith, omega arith, e, λ i l h. absurd (omega arith))
+      go false e none w = λ i l h. later e i l (λ j. w i j (omega arith))
+      go false e (some p) w = (omega (arith, w .0), omega (arith, w .1), w .2, λ i l h. later e i l (λ j. w .3 i j h))

@@ -1,4 +1,5 @@
 -- What each answer puts on the receipt, and the values that it gives.
+use mathlib.Core.Bool.{Bool, false}
 use Prim.Native.Nat.{ℕ}
 use Rattle.receipt.specs.declared.Checked.{Checked}
 use Rattle.receipt.specs.declared.Checked.the-variants as checked
@@ -14,6 +15,8 @@ use Rattle.receipt.specs.declared.Reading.{Reading}
 use Rattle.receipt.specs.declared.Reading.the-variants as reading
 use Rattle.receipt.specs.declared.Saving.{Saving}
 use Rattle.receipt.specs.declared.Saving.the-variants as saving
+use Rattle.receipt.specs.declared.Listing.{Listing}
+use Rattle.receipt.specs.declared.Listing.the-variants as listing
 use Rattle.receipt.specs.declared.Receipt.{Receipt}
 use Rattle.receipt.specs.Receipt.{outcomeNumber, done, receipt, refusedReceipt}
 
@@ -66,3 +69,13 @@ readLength (reading.Refused r) = 0
 abbrev pub savingReceipt : Saving → Receipt
 savingReceipt (saving.Saved k) = receipt done k 0
 savingReceipt (saving.Refused r) = refusedReceipt r
+
+-- List (document 02, A6): each outcome with its count; "place is the rows written"
+abbrev pub listingReceipt : Listing → Receipt
+listingReceipt (listing.Ended o r m k) = receipt (outcomeNumber o) r k
+listingReceipt (listing.Refused r) = refusedReceipt r
+
+-- "the answer says "more" when a further one exists and otherwise not"
+abbrev pub saysMore : Listing → Bool
+saysMore (listing.Ended o r m k) = m
+saysMore (listing.Refused r) = false

@@ -1,7 +1,7 @@
 // What an operation answers, by cases, and what each answer puts on the receipt.
 ghost use mathlib.Core.Path.{_≡_};
 ghost use Rattle.receipt.specs.Receipt.{numberOf, namedClause, outcomeNumber, refusal, receipt, refusedReceipt};
-ghost use Rattle.receipt.specs.Answers.{checkedReceipt, settlingReceipt, searchingReceipt, indexingReceipt, addingReceipt, addedLength, readingReceipt, readVariables, readLength, savingReceipt};
+ghost use Rattle.receipt.specs.Answers.{checkedReceipt, settlingReceipt, searchingReceipt, indexingReceipt, addingReceipt, addedLength, readingReceipt, readVariables, readLength, savingReceipt, listingReceipt, saysMore};
 use literal::ClauseNumber;
 
 // Why a call is refused: the rows of document 01's table of numbers that refuse, in its order, then those of document 02.
@@ -26,6 +26,7 @@ pub enum Fault {
     StripShort,
     UnmentionedVariable,
     ReasonsShort,
+    RowsShort,
 }
 
 impl Fault {
@@ -54,6 +55,7 @@ impl Fault {
             Fault::StripShort => 25,
             Fault::UnmentionedVariable => 26,
             Fault::ReasonsShort => 19,
+            Fault::RowsShort => 27,
         }
     }
 
@@ -300,6 +302,50 @@ impl Saving {
         match answer {
             Saving::Saved(length) => plain(DONE, length, 0),
             Saving::Refused(refusal) => refusal.receipt(),
+        }
+    }
+}
+
+// List: an outcome with the rows written, whether there is a layout more than those, and its count of splits.
+pub enum Listing {
+    Ended {
+        outcome: Outcome,
+        rows: usize,
+        more: bool,
+        count: u32,
+    },
+    Refused(Refusal),
+}
+
+impl Listing {
+    pub fn receipt(self) -> Receipt
+        ensures { λ r. ⌜ r ≡ listingReceipt self ⌝ }
+    {
+        let answer = self;
+        match answer {
+            Listing::Ended {
+                outcome,
+                rows,
+                more: _,
+                count,
+            } => plain(outcome.number(), rows, count),
+            Listing::Refused(refusal) => refusal.receipt(),
+        }
+    }
+
+    // "the answer says "more" when a further one exists and otherwise not".
+    pub fn more(self) -> bool
+        ensures { λ r. ⌜ r ≡ saysMore self ⌝ }
+    {
+        let answer = self;
+        match answer {
+            Listing::Ended {
+                outcome: _,
+                rows: _,
+                more,
+                count: _,
+            } => more,
+            Listing::Refused(_) => false,
         }
     }
 }

@@ -24,18 +24,9 @@ use Rattle.occurrences.proofs.Formulas.{mem-formula, formula-mem}
 use Rattle.state.proofs.Values.{stateOf-inside}
 use Rattle.tally.specs.Tally.{tallyOf, stateIn, valueIn}
 use Rattle.gather.specs.Gathering.{AtRoot, StandsLive}
-use Rattle.search.specs.Side.{Calm}
+use Rattle.side.specs.Side.{Calm}
+use Rattle.side.proofs.Calm.{calm-closed, wider}
 use Rattle.search.specs.Branch.{Branching, BranchesOn, Branchable}
-
--- every clause of a state at rest has one of the three forms
-pub calm-closed : {ix st : List ℕ} → Calm ix st → (c : Clause) → List·Memᴰ c (formulaOf ix) → Closed (standing (stateIn st) c)
-calm-closed {ix} {st} k c m =
-    let w = formula-mem ix m in
-    rw (w .2) (counted-closed (standing (stateIn st) (clauseOf ix (w .0))) (standing-no-false (stateIn st) (clauseOf ix (w .0))) (k .counted (w .0) (w .1)))
-
--- a state of n variables is one of more
-pub wider : {n m : ℕ} {s : State} → n ≤ m → WellFormed n s → WellFormed m s
-wider h w = record { low = w .low; fixed = w .fixed; beyond = λ p i. w .beyond p (omega arith) }
 
 module _ {ix st : List ℕ} {p : ℕ} (b : Branching ix st p) where
   -- one that stands for another stands nowhere

@@ -1,7 +1,6 @@
 pub mod Outcomes
 pub mod Walking
 pub mod Branches
-pub mod Beginning
 pub mod Sides
 pub mod Starting
 pub mod Calling

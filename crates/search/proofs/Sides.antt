@@ -12,49 +12,31 @@ use mir.Val.{Fits}
 use Rattle.literal.specs.declared.Literal.{Literal}
 use Rattle.literal.specs.declared.Literal.the-variants.{Pos, Neg}
 use Rattle.literal.specs.Literal.{TRUE, FALSE, var, codeOf, literalAt, codes}
-use Rattle.literal.proofs.Codes.{literalAt-codeOf, codeOf-literalAt}
 use Rattle.theory.specs.Formula.{Formula}
 use Rattle.theory.specs.Order.{Least}
 use Rattle.theory.specs.Propagation.{dead}
 use Rattle.theory.specs.Search.{branchVariable}
 use Rattle.theory.specs.State.{State, assign, opens, Open, WellFormed}
-use Rattle.theory.proofs.Asks.{Dies}
-use Rattle.theory.proofs.AtRest.{settled-dead}
 use Rattle.theory.proofs.Guard.{Guard, guard-steps, guard-split}
 use Rattle.theory.proofs.Live.{InLive, live-open, branch-least}
-use Rattle.theory.proofs.Propagation.{none-left, steps-well, steps-close}
+use Rattle.theory.proofs.Picking.{branch-picking, at-dead-end}
+use Rattle.theory.proofs.Propagation.{steps-well, steps-close}
 use Rattle.theory.proofs.States.{side}
-use Rattle.theory.proofs.Stepped.{assign-turned}
-use Rattle.state.proofs.Values.{stateOf-inside}
 use Rattle.occurrences.specs.Index.{formulaOf}
-use Rattle.tally.specs.Tally.{tallyOf, stateIn, valueIn}
+use Rattle.tally.specs.Tally.{stateIn}
 use Rattle.notes.specs.Notes.{Whole}
-use Rattle.moves.specs.Sound.{Sound}
 use Rattle.moves.specs.Stepping.{Died}
-use Rattle.moves.proofs.Dying.{dies-in}
 use Rattle.search.specs.declared.Level.{Level}
 use Rattle.engine.specs.Ready.{Rested}
 use Rattle.engine.proofs.Settles.{died-settles}
-use Rattle.search.specs.Side.{Tallied, Calm, Siding, Begun}
+use Rattle.side.specs.Side.{Begun}
+use Rattle.side.proofs.Calm.{calm-closed, rested-calm}
+use Rattle.side.proofs.Splitting.{side-dead}
 use Rattle.search.specs.Branch.{Branchable}
 use Rattle.search.specs.Walk.{Lasting, Beginning, Begins, Walkable, Splittable, Passable, under, walked, treeWalk, walkFrom}
-use Rattle.search.proofs.Branches.{calm-closed, wider}
-use Rattle.search.proofs.Walking.{at-dead-end, dead-walk}
+use Rattle.search.proofs.Walking.{dead-walk}
 
 -- propagation -------------------------------------------------------------------------------------------------------
-
-pub sound-tallied : {ix st wk : List ℕ} → Sound ix st wk → Tallied ix st
-sound-tallied s = record {
-  index = s .index;
-  exact = s .exact;
-  linked = s .linked;
-  classes = s .classes;
-  room = omega (arith, s .todo-room);
-  roots = omega (arith, s .roots-room);
-}
-
-pub rested-calm : {ix st st′ wk′ : List ℕ} → Rested ix st st′ wk′ → Calm ix st′
-rested-calm r = record { tallied = sound-tallied (r .sound); counted = r .counted; distinct = r .distinct; pairs = r .pairs }
 
 module _ {ix st wk : List ℕ} {l : Level} {plan : List ℕ} {trail : List ℤ} (k : Lasting ix l plan trail) (b : Beginning ix st wk l) where
   abbrev n : ℕ
@@ -65,7 +47,7 @@ module _ {ix st wk : List ℕ} {l : Level} {plan : List ℕ} {trail : List ℤ} 
 
   -- "Dead end: no layout here."
   pub died-walk : Died f (stateIn st) → walkFrom true l ix st plan trail ≡ treeWalk l f (stateIn st) plan trail
-  died-walk d = dead-walk n (l .depth) (l .left) plan trail _ (at-dead-end (k .within) (stateIn st) (b .well) (died-settles (k .within) (b .well) d))
+  died-walk d = dead-walk n (l .depth) (l .left) plan trail _ (at-dead-end (k .within) (branch-picking (k .within)) 1 (stateIn st) (b .well) (died-settles (k .within) (b .well) d))
 
   module _ {st′ wk′ : List ℕ} (r : Rested ix st st′ wk′) where
     pub rested-well : WellFormed n (stateIn st′)
@@ -87,11 +69,6 @@ module _ {ix st wk : List ℕ} {l : Level} {plan : List ℕ} {trail : List ℤ} 
     pub rested-splittable : (p : ℕ) → branchVariable f (stateIn st′) ≡ some p → Splittable ix st′ wk′ p l plan trail
     rested-splittable p e = record { lasting = k; calm = rested-calm r; whole = r .sound .whole; well = rested-well; branch = e; deep = omega (arith, b .deep, rested-fewer) }
 
--- what falls with each call: none of it is left at a dead end
-abbrev pub walkWeight : Bool → State → ℕ → ℕ
-walkWeight true s n = 0
-walkWeight false s n = 2 * opens s n + 1
-
 -- the sides of a split -----------------------------------------------------------------------------------------------
 
 module _ {ix st wk : List ℕ} {p : ℕ} {l : Level} {plan : List ℕ} {trail : List ℤ} (k : Splittable ix st wk p l plan trail) where
@@ -106,20 +83,6 @@ module _ {ix st wk : List ℕ} {p : ℕ} {l : Level} {plan : List ℕ} {trail : 
 
   pub side-room : l .depth < length trail
   side-room = omega (arith, side-deep, k .lasting .trail-room)
-
-  root-value : valueIn st p ≡ 2 * p
-  root-value = sym (codeOf-literalAt (valueIn st p)) ∙ ap codeOf (sym (stateOf-inside (tallyOf st .values) p (omega (arith, branch-open .inside, k .lasting .small))) ∙ branch-open .root)
-
-  -- both literals of the branch variable may be made false
-  pub side-siding : (x : ℕ) → x / 2 ≡ p → (wk′ : List ℕ) → Whole wk′ → Siding ix st wk′ x
-  side-siding x e wk′ w = record {
-    calm = k .calm;
-    well = wider (k .lasting .small) (k .well);
-    whole = w;
-    opened = omega (arith, branch-open .positive);
-    below = omega (arith, branch-open .inside, k .lasting .small);
-    root = rw e root-value;
-  }
 
   -- making the literal of code x false gives p the value t
   module _ (x : ℕ) (t : Literal) (constant : var t ≡ 0) (is : assign (literalAt x) FALSE (stateIn st) ≡ assign (Pos p) t (stateIn st)) where
@@ -156,26 +119,16 @@ module _ {ix st wk : List ℕ} {p : ℕ} {l : Level} {plan : List ℕ} {trail : 
                 deep = rw e (omega (arith, k .deep, side (k .well) branch-open t constant .closes));
               }
 
-      pub side-falls : (r : Bool) → Begun ix st x st′ wk′ r → walkWeight r (stateIn st′) (l .variables) < 2 * opens (stateIn st) (l .variables)
-      side-falls true b = omega (arith, side (k .well) branch-open t constant .closes)
-      side-falls false b = let e : stateIn st′ ≡ sideState = b .0 ∙ is in rw e (omega (arith, side (k .well) branch-open t constant .closes))
-
       -- whether its first step met a dead end or not, the side is walked
       pub side-walk : (r : Bool) → Begun ix st x st′ wk′ r → (left : ℕ) (plan′ : List ℕ) (trail′ : List ℤ) →
           walkFrom r (under p left l) ix st′ plan′ trail′ ≡ treeWalk (under p left l) (formulaOf ix) sideState plan′ trail′
       side-walk true b left plan′ trail′ =
-          let d : Dies (formulaOf ix) sideState = rw is at (dies-in (b .0)) in
-          dead-walk (l .variables) (l .depth + 1) left plan′ trail′ _ (at-dead-end (k .lasting .within) sideState side-well (settled-dead (k .lasting .within) side-well none-left d))
+          dead-walk (l .variables) (l .depth + 1) left plan′ trail′ _
+          (at-dead-end (k .lasting .within) (branch-picking (k .lasting .within)) 1 sideState side-well
+          (side-dead (k .calm) (k .lasting .small) (k .well) branch-open x t constant is st′ wk′ (k .lasting .within) b))
       side-walk false b left plan′ trail′ = let e : stateIn st′ ≡ sideState = b .0 ∙ is in rw e
 
   pub side-passable : (count splits left : ℕ) → splits + count ≤ left → Fits w32 left → (x : Literal) → var x ≡ p → (trail′ : List ℤ) → length trail′ ≡ length trail →
       Passable count splits x (l .depth) trail′
   side-passable count splits left h f x e trail′ q =
       record { sum = omega arith; room = omega (arith, side-room); small = omega (arith, branch-open .inside, k .lasting .small) }
-
--- the two literals of the branch variable, by their codes
-pub out-is : (p x : ℕ) → x ≡ codeOf (Pos p) → (s : State) → assign (literalAt x) FALSE s ≡ assign (Pos p) FALSE s
-out-is p x e s = rw (e, literalAt-codeOf (Pos p))
-
-pub taken-is : (p x : ℕ) → x ≡ codeOf (Neg p) → (s : State) → assign (literalAt x) FALSE s ≡ assign (Pos p) TRUE s
-taken-is p x e s = rw (e, literalAt-codeOf (Neg p)) (assign-turned s (Pos p) TRUE)

@@ -11,6 +11,7 @@ use Rattle.theory.specs.Tree.{limited}
 use Rattle.theory.proofs.AtRest.{settled-same}
 use Rattle.engine.proofs.Settles.{died-settles}
 use Rattle.theory.proofs.Guard.{guard-start, guard-steps}
+use Rattle.theory.proofs.Picking.{branch-picking, at-dead-end, same-tree}
 use Rattle.theory.proofs.Propagation.{initial-well, steps-well}
 use Rattle.theory.proofs.States.{opens-bound}
 use Rattle.theory.proofs.Tables.{accepted-sizes, accepted-within}
@@ -18,7 +19,7 @@ use Rattle.occurrences.specs.Index.{formulaOf}
 use Rattle.tally.specs.Tally.{stateIn}
 use Rattle.start.specs.Starting.{StartOf}
 use Rattle.search.specs.Walk.{Walkable, Begins, Searchable, walkFrom, walkOf, tableWalk}
-use Rattle.search.proofs.Walking.{at-dead-end, dead-walk, same-walk}
+use Rattle.search.proofs.Walking.{dead-walk}
 
 module _ {n : ℕ} {t : List ℤ} {plan : List ℕ} {trail : List ℤ} (k : Searchable n t plan trail) (ix st wk : List ℕ) (is : formulaOf ix ≡ clauses t) (left : ℕ) where
   within : Within n (formulaOf ix)
@@ -41,8 +42,8 @@ module _ {n : ℕ} {t : List ℤ} {plan : List ℕ} {trail : List ℤ} (k : Sear
       }
 
   pub start-walk : (r : Bool) → StartOf ix st wk r → walkFrom r (record { variables = n; from = 1; left = left; depth = 0 }) ix st plan trail ≡ tableWalk n t left plan trail
-  start-walk true s = rw (← is) (dead-walk n 0 left plan trail _ (at-dead-end within initial (initial-well n) (died-settles within (initial-well n) (s .0))))
+  start-walk true s = rw (← is) (dead-walk n 0 left plan trail _ (at-dead-end within (branch-picking within) 1 initial (initial-well n) (died-settles within (initial-well n) (s .0))))
   start-walk false s =
       rw (← is)
       (ap (λ r. walkOf n 0 (limited left r) plan trail)
-      (same-walk within initial (stateIn st) (initial-well n) (steps-well within (s .steps .1) (initial-well n)) (settled-same within (initial-well n) (s .steps .1))))
+      (same-tree within (branch-picking within) 1 initial (stateIn st) (initial-well n) (steps-well within (s .steps .1) (initial-well n)) (settled-same within (initial-well n) (s .steps .1))))

@@ -21,34 +21,11 @@ use Rattle.theory.specs.State.{State, assign, WellFormed}
 use Rattle.theory.specs.Tree.{Found, Run, run, visit, tree, Result, finish, stop, limited}
 use Rattle.theory.specs.Calls.{over}
 use Rattle.theory.proofs.Budget.{limited-enough, limited-short, count-min, limited-nothing, past, split-none, split-first, split-second}
-use Rattle.theory.proofs.Demands.{tree-step}
 use Rattle.search.specs.Walk.{Walked, walked, walkOf, counted, noted}
 
 -- the count of a walk is within its allowance
 pub walk-count : (n d b : ℕ) (r : Run Choice) (p : List ℕ) (t : List ℤ) (w : Walked) → w ≡ walkOf n d (limited b r) p t → w .walk .count ≤ b
 walk-count n d b r p t w e = omega (arith, ap (λ (u : Walked). u .walk .count) e, count-min b r)
-
--- from a state -----------------------------------------------------------------------------------------------------
-
-module _ {n : ℕ} {f : Formula} (within : Within n f) (s : State) (w : WellFormed n s) where
-  abbrev walk : ℕ → State → Run Choice
-  walk = tree (decide n f) (suc n)
-
-  decided-at : (o : Settled) → settle n f s ≡ o → treeFrom n f s ≡ visit walk 1 (decided n f o)
-  unfolding decide
-  decided-at o e = tree-step within s w ∙ ap (λ d. visit walk 1 (decided n f d)) e
-
-  -- "Dead end: no layout here."
-  pub at-dead-end : settle n f s ≡ dead → treeFrom n f s ≡ run [] 0
-  at-dead-end e = decided-at dead e
-
-  -- "No live group: open placements are left out, tied ones follow. Otherwise take the lowest open placement standing in a live group"
-  pub at-rest : (u : State) → settle n f s ≡ rest u → (o : Option ℕ) → branchVariable f u ≡ o → treeFrom n f s ≡ visit walk 1 (splitOn n u o)
-  at-rest u e o z = decided-at (rest u) e ∙ ap (λ d. visit walk 1 (splitOn n u d)) z
-
--- a walk from where steps have led is one from where they began
-pub same-walk : {n : ℕ} {f : Formula} → Within n f → (s u : State) → WellFormed n s → WellFormed n u → settle n f u ≡ settle n f s → treeFrom n f u ≡ treeFrom n f s
-same-walk within s u w v e = decided-at within u v _ e ∙ sym (decided-at within s w _ refl)
 
 -- walks that end without a split
 module _ (n d b : ℕ) (p : List ℕ) (t : List ℤ) (r : Run Choice) where

@@ -1,7 +1,6 @@
--- How code keeps the branch variable.
+-- What the walk over the variables for the branch variable asks, and what it finds of one.
 use mathlib.Core.Bool.{Bool, true, false}
 use mathlib.Core.List.{List}
-use mathlib.Core.Option.{Option, none, some}
 use Prim.Native.Nat.{ℕ, _≤_, _<_}
 use Rattle.literal.specs.Literal.{maxVariables}
 use Rattle.theory.specs.Formula.{Within}
@@ -9,13 +8,7 @@ use Rattle.theory.specs.State.{WellFormed}
 use Rattle.theory.proofs.Guard.{Guard, InWide}
 use Rattle.occurrences.specs.Index.{formulaOf}
 use Rattle.tally.specs.Tally.{stateIn}
-use Rattle.search.specs.Side.{Calm}
-use Rattle.search.specs.declared.Branch.{Branch}
-use Rattle.search.specs.declared.Branch.the-variants.{Nowhere, On}
-
-abbrev pub branchOf : Branch → Option ℕ
-branchOf Nowhere = none
-branchOf (On p) = some (p .0)
+use Rattle.side.specs.Side.{Calm}
 
 -- variable p stands in a wide clause, or in none
 abbrev pub BranchesOn : (ix st : List ℕ) → ℕ → Bool → Type 0

@@ -1,4 +1,3 @@
-pub mod Side
 pub mod Branch
 pub mod Walk
 pub mod Call

@@ -26,7 +26,7 @@ use Rattle.notes.specs.Notes.{Whole}
 use Rattle.search.specs.declared.Level.{Level}
 use Rattle.search.specs.declared.Walk.{Walk}
 use Rattle.engine.specs.Ready.{Ready}
-use Rattle.search.specs.Side.{Calm}
+use Rattle.side.specs.Side.{Calm}
 
 -- what lasts through a walk: clauses of variables up to n, and room in both lists
 pub record Lasting (ix : List ℕ) (l : Level) (plan : List ℕ) (trail : List ℤ) : Type 0 where

@@ -1,18 +1,15 @@
 // Search: the first layout of a table, by the split tree of document 01.
 ghost use mathlib.Core.Path.{_≡_};
-ghost use mathlib.Core.List.{map};
 ghost use Prim.Native.Nat.{_+_, _*_, _-_, _≤_, _<_};
 ghost use lib.ListN.{length};
-ghost use Rattle.general.specs.Booleans.{bit};
 ghost use Rattle.literal.specs.Literal.{maxVariables};
-ghost use Rattle.theory.specs.Formula.{holds};
-ghost use Rattle.theory.specs.Search.{onlyConstant, branchVariable, choiceOf};
-ghost use Rattle.theory.specs.Calls.{over, searchCall};
+ghost use Rattle.theory.specs.Search.{branchVariable};
+ghost use Rattle.theory.specs.Calls.{searchCall};
 ghost use Rattle.occurrences.specs.Index.{formulaOf};
 ghost use Rattle.tally.specs.Tally.{stateIn};
 ghost use Rattle.notes.specs.Notes.{Whole};
-ghost use Rattle.search.specs.Branch.{branchOf, Branching, BranchesOn, Branchable};
-ghost use Rattle.search.specs.Side.{Siding, Begun};
+ghost use Rattle.side.specs.Branch.{branchOf};
+ghost use Rattle.search.specs.Branch.{Branching, BranchesOn, Branchable};
 ghost use Rattle.search.specs.Walk.{Walkable, Splittable, walked, walkFrom, splitWalk, tableWalk, Searchable, Passable, counted, noted, under};
 ghost use Rattle.search.specs.Call.{called};
 use literal::Literal;
@@ -24,13 +21,8 @@ use receipt::Fault;
 use receipt::Outcome;
 use receipt::Refusal;
 use receipt::Searching;
+use side::Branch;
 use tally::Tally;
-
-// The variable to split on, if any clause is live.
-pub enum Branch {
-    Nowhere,
-    On(Variable),
-}
 
 // How a walk of the tree ends, and the splits that it makes.
 pub struct Walk {
@@ -74,37 +66,6 @@ fn branch_variable(index: &Index, state: &Tally, from: usize, n: usize) -> Branc
 
 // The walk ----------------------------------------------------------------------------------------------------------
 
-// 1 where a literal is true when only the constant is: open variables are left out.
-fn chosen(x: Literal) -> u8
-    ensures { λ r. ⌜ r ≡ bit (holds onlyConstant x) ⌝ }
-{
-    match x {
-        Literal::Pos(p) => { if p == 0 { 1 } else { 0 } }
-        Literal::Neg(p) => { if p == 0 { 0 } else { 1 } }
-    }
-}
-
-// A layout where no clause is live: open variables are left out, tied ones follow.
-fn write_choice(plan: &mut [u8], n: usize, state: &Tally)
-    requires { ⌜ n ≤ length (now plan) ⌝ }
-    requires { ⌜ n ≤ maxVariables ⌝ }
-    ensures { λ _. ⌜ now (plan .exit) ≡ over n (map bit (choiceOf n (stateIn (now (state .entry))))) (now (plan .entry)) ⌝ }
-{
-    for i in 0..n {
-        plan[i] = chosen(Literal::of_code(tally::value_of(state, i + 1)));
-    }
-}
-
-// The first step of a side of a split: nothing is listed yet, and the open literal x becomes false; true is a dead end.
-fn begin_side(index: &Index, state: &mut Tally, work: &mut Notes, x: u16) -> bool
-    requires { ⌜ Siding (now index) (now state) (now work) x ⌝ }
-    ensures { λ r. ⌜ Begun (now (index .entry)) (now (state .entry)) x (now (state .exit)) (now (work .exit)) r ⌝ }
-{
-    notes::set_todo_end(work, 0);
-    notes::set_roots_end(work, 0);
-    decide::decide(index, state, work, x)
-}
-
 // The level below a split on p, with `left` splits left.
 fn below(level: Level, p: Variable, left: u32) -> Level
     requires { ⌜ level .depth ≤ maxVariables ⌝ }
@@ -146,7 +107,7 @@ fn settle_and_decide(
     }
     let branch = branch_variable(index, state, level.from, level.variables);
     let Branch::On(p) = branch else {
-        write_choice(plan, level.variables, state);
+        side::write_choice(plan, 0, level.variables, state);
         return Walk {
             outcome: Outcome::LaidOut,
             count: 0,
@@ -177,7 +138,7 @@ fn split(
     }
     let mut second = *state;
     let x = Literal::Pos(p.0);
-    let out = begin_side(index, state, work, x.code());
+    let out = side::begin(index, state, work, x.code());
     let a = settle_and_decide(
         index,
         state,
@@ -192,7 +153,7 @@ fn split(
         return through(a, 1, Literal::Neg(p.0), level.depth, trail);
     };
     let used = 1 + a.count;
-    let taken = begin_side(index, &mut second, work, x.opposite().code());
+    let taken = side::begin(index, &mut second, work, x.opposite().code());
     let b = settle_and_decide(
         index,
         &mut second,
@@ -267,7 +228,7 @@ pub fn search(
     if trail.len() < n {
         return Searching::Refused(Refusal::new(Fault::TrailShort, 0));
     }
-    fill::clear_bytes(plan, n);
+    fill::clear_bytes(plan, 0, n);
     fill::clear_numbers(trail, n);
     let walk = walk_table(table, n, allowance, plan, trail);
     let outcome = walk.outcome;

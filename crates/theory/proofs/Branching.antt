@@ -1,7 +1,7 @@
 -- What is decided of a state that no rule fits is right about its first solution: the choice of a leaf, or the two sides of a split.
 use mathlib.Core.Path.{_≡_, refl, sym, _∙_}
 use mathlib.Core.Bool.{true, false, cond}
-use mathlib.Core.Logic.{inl, inr, ⊎-elim}
+use mathlib.Core.Logic.{inl, inr, ⊎-elim, _↔_}
 use mathlib.Core.Option.{Option, none, some}
 use mathlib.Core.List.{List·Memᴰ}
 use Prim.Native.Nat.{ℕ, _<_, _≤_}
@@ -34,6 +34,39 @@ cleared-below a p q h = rw (lt-ltb q p h)
 cleared-from : (a : Assignment) (p q : ℕ) → p ≤ q → cleared a p q ≡ a q
 cleared-from a p q h = rw (le-ltb q p h)
 
+-- the two sides of a split on an open variable
+abbrev pub LeftOut : ℕ → Formula → State → ℕ → Choice → Type 0
+LeftOut n f s p = Extends n f (assign (Pos p) FALSE s)
+
+abbrev pub Taken : ℕ → Formula → State → ℕ → Choice → Type 0
+Taken n f s p = Extends n f (assign (Pos p) TRUE s)
+
+module _ {n : ℕ} {s : State} {p : ℕ} (o : Open n s p) (f : Formula) where
+  pub left-out-is : (c : Choice) → LeftOut n f s p c ↔ (Extends n f s c × (assignment c p ≡ false))
+  left-out-is = extends-assign s (Pos p) FALSE (o .root) n f
+
+  pub taken-is : (c : Choice) → Taken n f s p c ↔ (Extends n f s c × (assignment c p ≡ true))
+  taken-is = extends-assign s (Pos p) TRUE (o .root) n f
+
+  pub sides-branches : WellFormed n s → ((c d : Choice) → Least _≼_ (LeftOut n f s p) c → Taken n f s p d → c ≼ d) →
+      Branches (WellFormed n) (λ u. opens u n) (Extends n f) _≼_ s (assign (Pos p) FALSE s) (assign (Pos p) TRUE s)
+  sides-branches w before = record {
+    good-left = left-out .well;
+    good-right = taken .well;
+    less-left = omega (arith, left-out .closes);
+    less-right = omega (arith, taken .closes);
+    into = λ c e. ⊎-elim (λ h. inr (taken-is c .1 (e, h))) (λ h. inl (left-out-is c .1 (e, h))) (bool-cases (assignment c p));
+    from-left = λ c e. left-out-is c .0 e .0;
+    from-right = λ c e. taken-is c .0 e .0;
+    before = before;
+  }
+    where
+      left-out : Side n s (assign (Pos p) FALSE s)
+      left-out = side w o FALSE refl
+
+      taken : Side n s (assign (Pos p) TRUE s)
+      taken = side w o TRUE refl
+
 module _ {n : ℕ} {f : Formula} {s : State} (w : WellFormed n s) (within : Within n f) (closed : (c : Clause) → List·Memᴰ c f → Closed (standing s c)) where
   -- p is the variable to split on
   module _ (p : ℕ) (b : Least _≤_ (InLive f s) p) where
@@ -50,14 +83,14 @@ module _ {n : ℕ} {f : Formula} {s : State} (w : WellFormed n s) (within : With
 
     branch-before : (c d : Choice) → Least _≼_ (Extends n f (assign (Pos p) FALSE s)) c → Extends n f (assign (Pos p) TRUE s) d → c ≼ d
     branch-before c d first taken = ≼-trans c e d
-        (first .least e (extends-assign s (Pos p) FALSE (opened .root) n f e .1 (still, left-out)))
+        (first .least e (left-out-is opened f e .1 (still, left-out)))
         (≼-roots w e d (still .solves .long) (right .0 .solves .long) (still .agrees) (right .0 .agrees) follows)
       where
         left : Extends n f s c × (assignment c p ≡ false)
-        left = extends-assign s (Pos p) FALSE (opened .root) n f c .0 (first .member)
+        left = left-out-is opened f c .0 (first .member)
 
         right : Extends n f s d × (assignment d p ≡ true)
-        right = extends-assign s (Pos p) TRUE (opened .root) n f d .0 taken
+        right = taken-is opened f d .0 taken
 
         v : Assignment
         v = cleared (assignment c) p
@@ -83,24 +116,8 @@ module _ {n : ℕ} {f : Formula} {s : State} (w : WellFormed n s) (within : With
           ]
         ]
 
-    pub branch-branches : Branches (WellFormed n) (λ u. opens u n) (Extends n f) _≼_ s (assign (Pos p) FALSE s) (assign (Pos p) TRUE s)
-    branch-branches = record {
-      good-left = left-out .well;
-      good-right = taken .well;
-      less-left = omega (arith, left-out .closes);
-      less-right = omega (arith, taken .closes);
-      into = λ c e. ⊎-elim (λ h. inr (extends-assign s (Pos p) TRUE (opened .root) n f c .1 (e, h))) (λ h. inl (extends-assign s (Pos p) FALSE (opened .root) n f c .1 (e, h)))
-          (bool-cases (assignment c p));
-      from-left = λ c e. extends-assign s (Pos p) FALSE (opened .root) n f c .0 e .0;
-      from-right = λ c e. extends-assign s (Pos p) TRUE (opened .root) n f c .0 e .0;
-      before = branch-before;
-    }
-      where
-        left-out : Side n s (assign (Pos p) FALSE s)
-        left-out = side w opened FALSE refl
-
-        taken : Side n s (assign (Pos p) TRUE s)
-        taken = side w opened TRUE refl
+    branch-branches : Branches (WellFormed n) (λ u. opens u n) (Extends n f) _≼_ s (assign (Pos p) FALSE s) (assign (Pos p) TRUE s)
+    branch-branches = sides-branches opened f w branch-before
 
   pub splitOn-means : Means (WellFormed n) (λ u. opens u n) (Extends n f) _≼_ s (splitOn n s (branchVariable f s))
   splitOn-means = go (branchVariable f s) (branch-least f s closed)

@@ -16,42 +16,22 @@ use Rattle.theory.specs.State.{State, initial, opens, WellFormed}
 use Rattle.theory.specs.Table.{Accepted}
 use Rattle.theory.specs.Tree.{Found, visit, tree, finished, finish}
 use Rattle.theory.proofs.Agreement.{Extends}
-use Rattle.theory.proofs.Branching.{splitOn-means}
 use Rattle.theory.proofs.Budget.{stopped-iff, count-min, larger-budget, limited-finished}
 use Rattle.theory.proofs.Propagation.{initial-well, Ends}
-use Rattle.theory.proofs.Solutions.{Sol, Keeps, settling-keeps-solutions}
-use Rattle.theory.proofs.Splits.{rests-closed, settle-ends, tree-bound}
+use Rattle.theory.proofs.Picking.{branch-picking, picking-means}
+use Rattle.theory.proofs.Splits.{tree-bound}
 use Rattle.theory.proofs.States.{opens-bound}
 use Rattle.theory.proofs.Tables.{accepted-within}
-use Rattle.theory.proofs.Tree.{Means, means-back, choiceFound, tree-first, tree-fuel}
+use Rattle.theory.proofs.Tree.{choiceFound, tree-first}
 
--- the decision of every state is right about its solutions --------------------------------------------------------
-
-extends-sol : (n : ℕ) (f : Formula) (s : State) (c : Choice) → Extends n f s c → Sol f s (assignment c)
-extends-sol n f s c h = record { constant = refl; satisfies = h .solves .satisfies; agrees = h .agrees }
+-- the tree -----------------------------------------------------------------------------------------------------------
 
 module _ {n : ℕ} {f : Formula} (within : Within n f) where
-  pub decide-means : (s : State) → WellFormed n s → Means (WellFormed n) (λ u. opens u n) (Extends n f) _≼_ s (decide n f s)
-  unfolding decide
-  decide-means s w = go (settle n f s) (settle-ends within s w) (settling-keeps-solutions within (suc n) s w (omega (arith, opens-bound s n)))
-    where
-      go : (o : Settled) → Ends n f s o → Keeps f s o → Means (WellFormed n) (λ u. opens u n) (Extends n f) _≼_ s (decided n f o)
-      go dead e k = λ c h. k (assignment c) (extends-sol n f s c h)
-      go (rest u) e k =
-          means-back (WellFormed n) (λ u. opens u n) (Extends n f) _≼_ s u same (e .fewer) (decided n f (rest u))
-          (splitOn-means (e .well) within (rests-closed f u (e .rests)))
-        where
-          same : (c : Choice) → Extends n f s c ↔ Extends n f u c
-          same c = (
-            λ h. record { solves = h .solves; agrees = k (assignment c) .0 (extends-sol n f s c h) .agrees },
-            λ h. record { solves = h .solves; agrees = k (assignment c) .1 (extends-sol n f u c h) .agrees },
-          )
-
   -- the tree finds the first solution of the formula, or there is none
   pub tree-first-solution : IsFirst (Solution n f) (choiceFound (treeOf n f .found))
   unfolding treeOf
   tree-first-solution = go (choiceFound (treeOf n f .found))
-      (tree-first (WellFormed n) (λ u. opens u n) (Extends n f) _≼_ (decide n f) decide-means (suc n) 0 initial (initial-well n) (omega (arith, opens-bound initial n)))
+      (tree-first (WellFormed n) (λ u. opens u n) (Extends n f) _≼_ (decide n f) (picking-means within (branch-picking within)) (suc n) 0 initial (initial-well n) (omega (arith, opens-bound initial n)))
     where
       agrees : (c : Choice) → Solution n f c → Extends n f initial c
       agrees c h = record { solves = h; agrees = record { at = λ p. refl } }
@@ -59,16 +39,6 @@ module _ {n : ℕ} {f : Formula} (within : Within n f) where
       go : (o : Option Choice) → IsFirst (Extends n f initial) o → IsFirst (Solution n f) o
       go none h = λ c k. h c (agrees c k)
       go (some c) h = record { member = h .member .solves; least = λ d k. h .least d (agrees d k) }
-
-  -- the fuel of the tree is only a way to define it
-  pub tree-enough-fuel : (s : State) → WellFormed n s → (k j : ℕ) → n < k → n < j → tree (decide n f) k 1 s ≡ tree (decide n f) j 1 s
-  tree-enough-fuel s w k j p q =
-      tree-fuel (WellFormed n) (λ u. opens u n) (Extends n f) _≼_ (decide n f) decide-means k j 1 s w (omega (arith, opens-bound s n)) (omega (arith, opens-bound s n))
-
-  -- so the tree from a state is what is decided of it, and the trees from its sides
-  pub tree-step : (s : State) → WellFormed n s → treeFrom n f s ≡ visit (tree (decide n f) (suc n)) 1 (decide n f s)
-  unfolding tree
-  tree-step s w = tree-enough-fuel s w (suc n) (suc (suc n)) (omega arith) (omega arith)
 
 -- demands 2 and 3, of the search of an accepted table with an allowance of b ----------------------------------------
 

@@ -42,11 +42,11 @@ decide-forgets : (n : ℕ) (f : Formula) (e : Explained) → seen stateOf (decid
 unfolding decideBy decide
 decide-forgets n f e = rw (← settle-forgets n f e) (ends (explain n f e))
   where
-    splits : (u : Explained) (o : Option ℕ) → branchVariable f (u .state) ≡ o → seen stateOf (endedBy n f (rest u)) ≡ decided n f (settled.rest (u .state))
+    splits : (u : Explained) (o : Option ℕ) → branchVariable f (u .state) ≡ o → seen stateOf (endedBy n f (rest u)) ≡ decided (branchVariable f) n (settled.rest (u .state))
     splits u none q = rw q
     splits u (some p) q = rw q
 
-    ends : (o : Explanation) → seen stateOf (endedBy n f o) ≡ decided n f (forget o)
+    ends : (o : Explanation) → seen stateOf (endedBy n f o) ≡ decided (branchVariable f) n (forget o)
     ends dead = refl
     ends (rest u) = splits u (branchVariable f (u .state)) refl
 

@@ -27,6 +27,10 @@ use Rattle.theory.proofs.Live.{InLive, none-alive}
 abbrev pub choiceFrom : ℕ → State → Assignment → Choice
 choiceFrom n s v = upTo (λ p. holds v (s p)) n
 
+pub choice-long : (n : ℕ) (s : State) → length (choiceOf n s) ≡ n
+unfolding choiceOf
+choice-long n s = length-from (λ p. holds onlyConstant (s p)) 1 n
+
 module _ {n : ℕ} {s : State} (w : WellFormed n s) where
   -- where two choices that agree with s first differ, they differ at an open variable
   pub ≼-roots : (c d : Choice) → length c ≡ n → length d ≡ n → Agrees (assignment c) s → Agrees (assignment d) s →

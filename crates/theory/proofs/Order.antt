@@ -1,4 +1,4 @@
--- A choice comes before another by what they say where they first differ, and the order of choices is transitive.
+-- A choice comes before another by what they say where they first differ; the order of choices is transitive, and no two come before each other.
 use mathlib.Core.Path.{_≡_, refl, ap, _∙_}
 use mathlib.Core.Bool.{Bool, true, false}
 use mathlib.Core.List.{[], _∷_}
@@ -8,7 +8,7 @@ use lib.ListN.{length, getD}
 use Rattle.general.specs.Booleans.{true-not-false}
 use Rattle.general.specs.Lists.{upTo, getD-from}
 use Rattle.theory.specs.Formula.{Choice, assignment}
-use Rattle.theory.specs.Order.{_≼_}
+use Rattle.theory.specs.Order.{_≼_, _≺_}
 
 pub assignment-upTo : (g : ℕ → Bool) (n p : ℕ) → 0 < p → p ≤ n → assignment (upTo g n) p ≡ g p
 assignment-upTo g n zero h k = absurd (omega arith)
@@ -56,3 +56,29 @@ unfolding _≼_
 ≼-trans (true ∷ b) (false ∷ c) (z ∷ d) h k = absurd h
 ≼-trans (true ∷ b) (true ∷ c) (false ∷ d) h k = absurd k
 ≼-trans (true ∷ b) (true ∷ c) (true ∷ d) h k = ≼-trans b c d h k
+
+-- where each is the other or comes before it, they are the same
+pub ≼-antisym : (c d : Choice) → c ≼ d → d ≼ c → c ≡ d
+unfolding _≼_
+≼-antisym [] [] h k = refl
+≼-antisym [] (y ∷ d) h k = absurd k
+≼-antisym (x ∷ c) [] h k = absurd h
+≼-antisym (false ∷ c) (false ∷ d) h k = ap (_∷_ false) (≼-antisym c d h k)
+≼-antisym (false ∷ c) (true ∷ d) h k = absurd k
+≼-antisym (true ∷ c) (false ∷ d) h k = absurd h
+≼-antisym (true ∷ c) (true ∷ d) h k = ap (_∷_ true) (≼-antisym c d h k)
+
+-- of two choices at most one comes before the other
+pub ≺-asym : (c d : Choice) → c ≺ d → ¬ (d ≺ c)
+≺-asym c d h k = h .1 (≼-antisym c d (h .0) (k .0))
+
+-- the same in front of both
+pub ≺-cons : (b : Bool) (c d : Choice) → c ≺ d → (b ∷ c) ≺ (b ∷ d)
+unfolding _≼_
+≺-cons false c d h = (h .0, λ e. h .1 cc)
+≺-cons true c d h = (h .0, λ e. h .1 cc)
+
+-- "0 before 1"
+pub ≺-zero-one : (c d : Choice) → (false ∷ c) ≺ (true ∷ d)
+unfolding _≼_
+≺-zero-one c d = (tt, λ e. let q : _≡_ {A = Bool} false true = cc in true-not-false q refl)

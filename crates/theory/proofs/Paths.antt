@@ -16,7 +16,8 @@ use Rattle.theory.specs.Table.{Accepted}
 use Rattle.theory.specs.Tree.{Decision, dead, done, branch, Found, Run, through, tried, visit, tree}
 use Rattle.theory.proofs.Agreement.{Extends}
 use Rattle.theory.proofs.Budget.{limited-found}
-use Rattle.theory.proofs.Demands.{decide-means, tree-first-solution}
+use Rattle.theory.proofs.Demands.{tree-first-solution}
+use Rattle.theory.proofs.Picking.{branch-picking, picking-means}
 use Rattle.theory.proofs.Propagation.{initial-well}
 use Rattle.theory.proofs.States.{opens-bound}
 use Rattle.theory.proofs.Tables.{accepted-within}
@@ -55,7 +56,7 @@ module _ {S A : Type 0} (Good : S → Type 0) (left : S → ℕ) (Sol : S → A 
 path-fits : {n : ℕ} {f : Formula} → Within n f → PathWithin n (treeOf n f .found)
 unfolding treeOf
 path-fits {n} {f} within = go (treeOf n f .found)
-    (tree-path (WellFormed n) (λ u. opens u n) (Extends n f) _≼_ (decide n f) (decide-means within) (suc n) 1 initial (initial-well n))
+    (tree-path (WellFormed n) (λ u. opens u n) (Extends n f) _≼_ (decide n f) (picking-means within (branch-picking within)) (suc n) 1 initial (initial-well n))
   where
     go : (l : List (Found Choice)) → PathWithin (opens initial n) l → PathWithin n l
     go [] h = tt

@@ -235,7 +235,7 @@ module _ {n : ℕ} {f : Formula} (within : Within n f) where
       split u wu l none k = tt
       split u wu l (some p) k = narrow-at u wu p (k .member) m l
 
-      go : (o : Settled) → Ends n f s o → AtMost m o → Narrow N (WellFormed n) Leaves m (decided n f o)
+      go : (o : Settled) → Ends n f s o → AtMost m o → Narrow N (WellFormed n) Leaves m (decided (branchVariable f) n o)
       go dead e l = tt
       go (rest u) e l = split u (e .well) l (branchVariable f u) (branch-least f u (rests-closed f u (e .rests)))
 

@@ -1,14 +1,15 @@
 -- The split tree over any kind of state finds the least solution first, whatever the fuel that is enough, and needs at most B splits for any B that pays for a branch.
 use mathlib.Core.Path.{_≡_, refl, ap}
-use mathlib.Core.Logic.{_⊎_, ⊎-elim, _↔_}
-use mathlib.Core.List.{List, [], _∷_, _++_}
+use mathlib.Core.Logic.{_⊎_, inl, inr, ⊎-elim, _↔_}
+use mathlib.Core.List.{List, [], _∷_, _++_, map, List·Memᴰ, List·Memᴰ·head, List·Memᴰ·not-nil, List·Memᴰ·eq-of-singleton, List·Memᴰ·append-cases, append-nil, Memᴰ·append-left, Memᴰ·append-right}
 use mathlib.Core.Option.{Option, none, some}
 use Prim.Native.Nat.{ℕ, zero, suc, _+_, _-_, _≤_, _<_}
 use native.Mathlib.Omega.{arith}
-use lib.ListN.{length}
+use lib.ListN.{length, length-append, length-map}
 use Rattle.literal.specs.declared.Literal.the-variants.{Pos, Neg}
-use Rattle.theory.specs.Order.{Least, IsLeast}
-use Rattle.theory.specs.Tree.{Decision, dead, done, branch, Found, Run, through, split, tried, visit, tree}
+use Rattle.theory.specs.Order.{Least, IsLeast, Ascends, Firsts}
+use Rattle.theory.proofs.Ascending.{ascends-append}
+use Rattle.theory.specs.Tree.{Decision, dead, done, branch, Found, Run, through, split, choicesFound, tried, visit, tree}
 
 -- the first choice that is found
 abbrev pub choiceFound : {A : Type 0} → List (Found A) → Option A
@@ -122,6 +123,90 @@ module _ {S A : Type 0} (Good : S → Type 0) (left : S → ℕ) (Sol : S → A 
             rw (ih k l (w .good-left) (omega arith) (omega arith))
             (ap (split x (tree decide g k l))
             (tried-agree (tree decide f) r (tree decide g) (λ j. ih j r (w .good-right) (omega arith) (omega arith)) (k - length (tree decide g k l .found))))
+
+    -- the tree from a state is what is decided of it, and the trees from its sides
+    pub tree-step : (f k : ℕ) (s : S) → Good s → left s < f → tree decide f k s ≡ visit (tree decide f) k (decide s)
+    unfolding tree
+    tree-step f k s g h = tree-fuel f (suc f) k s g h (omega arith)
+
+-- All that a tree finds, where a leaf has one solution and the left-out side comes before the taken side --------------
+
+pub choices-split : {A : Type 0} (p : ℕ) (x y : List (Found A)) → choicesFound (through (Neg p) x ++ through (Pos p) y) ≡ choicesFound x ++ choicesFound y
+choices-split p [] [] = refl
+choices-split p [] (b ∷ y) = ap (_∷_ (b .choice)) (choices-split p [] y)
+choices-split p (a ∷ x) y = ap (_∷_ (a .choice)) (choices-split p x y)
+
+module _ {S A : Type 0} (Good : S → Type 0) (left : S → ℕ) (Sol : S → A → Type 0) (Le Lt : A → A → Type 0) where
+  abbrev pub Strict : S → Decision S A → Type 0
+  Strict s dead = Unit {0}
+  Strict s (done a) = (b : A) → Sol s b → b ≡ a
+  Strict s (branch p l r) = (a b : A) → Sol l a → Sol r b → Lt a b
+
+  abbrev FirstsOf : S → ℕ → List A → Type 0
+  FirstsOf s k l = Firsts Lt (Sol s) k l
+
+  module _ {s l r : S} (w : Branches Good left Sol Le s l r) (before : (a b : A) → Sol l a → Sol r b → Lt a b) (k : ℕ) (x : List A) (f : FirstsOf l k x) where
+    member-left : (a : A) → List·Memᴰ a x → Sol s a
+    member-left a m = w .from-left a (f .member a m)
+
+    -- the left-out side has as many as are wanted
+    firsts-enough : length x ≡ k → FirstsOf s k x
+    firsts-enough e = record {
+      member = member-left;
+      ascends = f .ascends;
+      most = f .most;
+      all = λ a h. ⊎-elim (f .all a) (λ q. inr (e, λ b m. before b a (f .member b m) q)) (w .into a h);
+    }
+
+    -- it has fewer, and the taken side has the next ones
+    firsts-both : (j : ℕ) → length x + suc j ≡ k → (y : List A) → FirstsOf r (suc j) y → FirstsOf s k (x ++ y)
+    firsts-both j sum y g = record {
+      member = λ a m. ⊎-elim (member-left a) (λ h. w .from-right a (g .member a h)) (List·Memᴰ·append-cases x m);
+      ascends = ascends-append Lt x y (f .ascends) (g .ascends) (λ a b m h. before a b (f .member a m) (g .member b h));
+      most = omega (arith, length-append x y, g .most);
+      all = λ a h. ⊎-elim (on-left a) (on-right a) (w .into a h);
+    }
+      where
+        on-left : (a : A) → Sol l a → List·Memᴰ a (x ++ y) ⊎ ((length (x ++ y) ≡ k) × ((b : A) → List·Memᴰ b (x ++ y) → Lt b a))
+        on-left a h = ⊎-elim (λ m. inl (Memᴰ·append-left y m)) (λ q. absurd (omega (arith, q .0))) (f .all a h)
+
+        on-right : (a : A) → Sol r a → List·Memᴰ a (x ++ y) ⊎ ((length (x ++ y) ≡ k) × ((b : A) → List·Memᴰ b (x ++ y) → Lt b a))
+        on-right a h = ⊎-elim (λ m. inl (Memᴰ·append-right x m))
+            (λ q. inr (omega (arith, length-append x y, q .0), λ b m. ⊎-elim (λ i. before b a (f .member b i) h) (q .1 b) (List·Memᴰ·append-cases x m)))
+            (g .all a h)
+
+  module _ (decide : S → Decision S A) (ok : (s : S) → Good s → Means Good left Sol Le s (decide s)) (strict : (s : S) → Good s → Strict s (decide s)) where
+    -- the first solutions in order, as many as are wanted, or all
+    pub tree-firsts : (f k : ℕ) (s : S) → Good s → left s < f → FirstsOf s (suc k) (choicesFound (tree decide f (suc k) s .found))
+    unfolding tree Ascends
+    tree-firsts zero k s g p = absurd (omega arith)
+    tree-firsts (suc f) k s g p = go (tree-firsts f) (decide s) (ok s g) (strict s g)
+      where
+        go : ((j : ℕ) (u : S) → Good u → left u < f → FirstsOf u (suc j) (choicesFound (tree decide f (suc j) u .found))) →
+            (d : Decision S A) → Means Good left Sol Le s d → Strict s d → FirstsOf s (suc k) (choicesFound (visit (tree decide f) (suc k) d .found))
+        go ih dead w o = record { member = λ a m. absurd (List·Memᴰ·not-nil m); ascends = tt; most = omega arith; all = λ a h. absurd (w a h) }
+        go ih (done a) w o = record {
+          member = λ b m. rw (List·Memᴰ·eq-of-singleton m) (w .member);
+          ascends = (λ b m. absurd (List·Memᴰ·not-nil m), tt);
+          most = omega arith;
+          all = λ b h. inl (List·Memᴰ·head (o b h));
+        }
+        go ih (branch q l r) w o =
+            rw (choices-split q found (tried (tree decide f) (suc k - length found) r .found)) (rest (suc k - length found) refl)
+          where
+            found : List (Found A)
+            found = tree decide f (suc k) l .found
+
+            first : FirstsOf l (suc k) (choicesFound found)
+            first = ih k l (w .good-left) (omega arith)
+
+            long : length (choicesFound found) ≡ length found
+            long = length-map found (λ a. a .choice)
+
+            rest : (j : ℕ) → suc k - length found ≡ j → FirstsOf s (suc k) (choicesFound found ++ choicesFound (tried (tree decide f) j r .found))
+            rest zero e = rw (append-nil (choicesFound found)) (firsts-enough w o (suc k) (choicesFound found) first (omega (arith, first .most, long)))
+            rest (suc j) e =
+                firsts-both w o (suc k) (choicesFound found) first j (omega (arith, long)) (choicesFound (tree decide f (suc j) r .found)) (ih j r (w .good-right) (omega arith))
 
 -- How many splits a run makes, by a bound B on the open variables. Fits s m: what settling leaves of s is dead, or has at most m open variables.
 module _ {S : Type 0} (B : ℕ → ℕ) (Good : S → Type 0) (Fits : S → ℕ → Type 0) where

@@ -2,7 +2,7 @@
 use mathlib.Core.Bool.{Bool, _||_, cond}
 use mathlib.Core.List.{List, [], _∷_, _++_}
 use mathlib.Core.Option.{Option, none, some}
-use Prim.Native.Nat.{ℕ, zero, suc, _+_, _/_, _%_}
+use Prim.Native.Nat.{ℕ, zero, suc, _+_, _*_, _/_, _%_, min}
 use lib.Dec.{ltb}
 use lib.IntN.{ℤ, negsuc, pos as posℤ}
 use lib.ListN.{length, replicate, take, drop}
@@ -11,7 +11,7 @@ use Rattle.general.specs.Search.{firstPlace}
 use Rattle.literal.specs.declared.Literal.{Literal}
 use Rattle.literal.specs.declared.Literal.the-variants.{Pos, Neg}
 use Rattle.literal.specs.Literal.{maxVariables, maxClauses, maxLiterals, maxTable}
-use Rattle.receipt.specs.declared.Fault.the-variants.{TooManyClauses, TooManyLiterals, PlanShort, TrailShort, HeadsShort, ReceiptShort, UsedLengthWrong, StateShort, TableShort, StripShort, UnmentionedVariable, ReasonsShort}
+use Rattle.receipt.specs.declared.Fault.the-variants.{TooManyClauses, TooManyLiterals, PlanShort, TrailShort, HeadsShort, ReceiptShort, UsedLengthWrong, StateShort, TableShort, StripShort, UnmentionedVariable, ReasonsShort, RowsShort}
 use Rattle.receipt.specs.declared.Refusal.{Refusal}
 use Rattle.receipt.specs.declared.Checked.{Checked}
 use Rattle.receipt.specs.declared.Checked.the-variants.{Passed, Refused}
@@ -19,6 +19,8 @@ use Rattle.receipt.specs.declared.Settling.{Settling}
 use Rattle.receipt.specs.declared.Settling.the-variants as settling
 use Rattle.receipt.specs.declared.Searching.{Searching}
 use Rattle.receipt.specs.declared.Searching.the-variants as searching
+use Rattle.receipt.specs.declared.Listing.{Listing}
+use Rattle.receipt.specs.declared.Listing.the-variants as listing
 use Rattle.receipt.specs.declared.Indexing.{Indexing}
 use Rattle.receipt.specs.declared.Indexing.the-variants as indexing
 use Rattle.receipt.specs.declared.Head.{Head}
@@ -39,8 +41,9 @@ use Rattle.theory.specs.Table.{closes, zeros, nonzeros, refused, isUnkno
 use Rattle.theory.specs.Propagation.{Settled, dead, rest, settle}
 use Rattle.theory.specs.Reasons.{Explanation, unexplained, explain}
 use Rattle.theory.specs.Reasons as explanation
-use Rattle.theory.specs.Tree.{Result}
+use Rattle.theory.specs.Tree.{choicesFound, Result}
 use Rattle.theory.specs.Search.{search, planOf, trailOf}
+use Rattle.theory.specs.Listing.{list, rowsOf}
 use Rattle.theory.specs.Mentions.{mentionsAll}
 use Rattle.theory.specs.Strip.{Decoding, readStrip}
 use Rattle.theory.specs.Encoding.{savedStrip}
@@ -123,6 +126,33 @@ searchChecked Passed n t b plan trail =
 -- "Tables: 1, 2, 3, 4, 5, then 6, 7 (search)"
 unfoldable pub searchCall : ℕ → List ℤ → ℕ → List ℕ → List ℤ → SearchCall
 searchCall n t b plan trail = searchChecked (check n t) n t b plan trail
+
+-- List ------------------------------------------------------------------------------------------------------------
+
+pub record ListCall : Type 0 where
+  pub answer : Listing
+  pub rows : List ℕ
+
+-- "place is the rows written, and the answer says "more" when a further one exists and otherwise not"
+abbrev pub listAnswer : ℕ → Result Choice → Listing
+listAnswer k r = listing.Ended (r .outcome) (min k (length (r .found))) (ltb k (length (r .found))) (r .count)
+
+-- a stop finds nothing: "place 0, the first k times n bytes 0, no "more""
+abbrev pub listedCall : ℕ → ℕ → Result Choice → List ℕ → ListCall
+listedCall n k r rows = record { answer = listAnswer k r; rows = over (k * n) (rowsOf n k (choicesFound (r .found))) rows }
+
+abbrev pub listRefused : Refusal → List ℕ → ListCall
+listRefused r rows = record { answer = listing.Refused r; rows = rows }
+
+abbrev pub listChecked : Checked → ℕ → List ℤ → ℕ → ℕ → List ℕ → ListCall
+listChecked (Refused r) n t k b rows = listRefused r rows
+listChecked Passed n t k b rows =
+    cond (ltb (length rows) (k * n)) (listRefused (refusal RowsShort 0) rows)
+    (listedCall n k (list n t k b) rows)
+
+-- "Turned away: 1 to 5, then 27, row room under k times n."
+unfoldable pub listCall : ℕ → List ℤ → ℕ → ℕ → List ℕ → ListCall
+listCall n t k b rows = listChecked (check n t) n t k b rows
 
 -- Index -----------------------------------------------------------------------------------------------------------
 

@@ -8,6 +8,8 @@ pub mod Propagation
 pub mod Tree
 pub mod Bound
 pub mod Search
+pub mod Layouts
+pub mod Listing
 pub mod Reasons
 pub mod Strip
 pub mod Encoding

@@ -47,13 +47,14 @@ abbrev pub splitOn : ℕ → State → Option ℕ → Decision State Choice
 splitOn n s none = done (choiceOf n s)
 splitOn n s (some p) = branch p (assign (Pos p) FALSE s) (assign (Pos p) TRUE s)
 
-abbrev pub decided : ℕ → Formula → Settled → Decision State Choice
-decided n f dead = t.dead
-decided n f (rest s) = splitOn n s (branchVariable f s)
+-- what settling leaves: a dead end, or a state of which one variable is picked, if any is, to split on
+abbrev pub decided : (State → Option ℕ) → ℕ → Settled → Decision State Choice
+decided pick n dead = t.dead
+decided pick n (rest s) = splitOn n s (pick s)
 
 -- "Settling hands over to the split"
 unfoldable pub decide : ℕ → Formula → State → Decision State Choice
-decide n f s = decided n f (settle n f s)
+decide n f s = decided (branchVariable f) n (settle n f s)
 
 -- the tree from a state, walked to the first layout: each split closes one of n open variables, so fuel n + 1 is enough
 abbrev pub treeFrom : ℕ → Formula → State → Run Choice

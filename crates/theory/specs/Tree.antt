@@ -36,6 +36,10 @@ module _ {A : Type 0} where
   abbrev pub split : ℕ → Run A → Run A → Run A
   split p a b = run (through (Neg p) (a .found) ++ through (Pos p) (b .found)) (1 + a .splits + b .splits)
 
+  -- what was found, without the paths
+  abbrev pub choicesFound : List (Found A) → List A
+  choicesFound = map (λ a. a .choice)
+
 module _ {S A : Type 0} where
   -- a side is tried only where layouts are still wanted
   abbrev pub tried : (ℕ → S → Run A) → ℕ → S → Run A

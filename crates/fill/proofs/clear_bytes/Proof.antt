@@ -1,16 +1,18 @@
 -- `clear_bytes` meets its contract, by the laws of Runs.
+use mathlib.Core.Path.{sym}
 use Prim.Native.Nat.{_-_}
 use borrow.Author.Needs.{needs}
-use lib.ListN.{replicate}
-use Rattle.general.specs.Runs.{Writing, begun, turned-filling, filled}
+use native.Mathlib.Omega.{arith}
+use lib.ListN.{replicate, length-replicate, getD-replicate}
+use Rattle.general.specs.Runs.{Writing, begun, turned, written}
 use Rattle.fill.proofs.clear_bytes.Statement.{statement}
 use Rattle.fill.proofs.clear_bytes.Tie as tie
 
 abbrev Inv-loop : tie.InvT-loop
-Inv-loop bytes₀ n i₀ bytes i = Writing 0 n (replicate n 0) bytes₀ bytes i
+Inv-loop bytes₀ at n i₀ bytes i = Writing at n (replicate n 0) bytes₀ bytes i
 
 abbrev μ-loop : tie.MeasureT-loop
-μ-loop bytes₀ n i₀ bytes i = n - i
+μ-loop bytes₀ at n i₀ bytes i = n - i
 
 pub clear-bytes-spec : {M : Type 1} → statement M
 clear-bytes-spec =
@@ -22,6 +24,7 @@ clear-bytes-spec =
     (λ c. search needs)
     (λ c. search needs)
     (λ c. search needs)
-    (λ c. turned-filling 0 _ _ _ _ (c .before .loop .inv) (search needs) (c .loop-test .taken))
     (λ c. search needs)
-    (λ c. filled 0 _ _ _ _ (c .before .loop .inv) (c .loop-test .left)))
+    (λ c. turned _ _ _ _ (length-replicate _ 0) _ _ (c .before .loop .inv) (search needs) (c .loop-test .taken) 0 0 (sym (getD-replicate _ _ 0 0 (c .loop-test .taken))))
+    (λ c. search needs)
+    (λ c. written _ _ _ _ (length-replicate _ 0) _ _ (c .before .loop .inv) (c .loop-test .left)))

@@ -3,6 +3,7 @@ use Prim.Native.Nat.{ℕ, _<_, _≤_, _+_, _*_, _-_}
 use mathlib.Core.Path.{_≡_, refl, ap, sym, _∙_}
 use mathlib.Core.Option.{none, some}
 use borrow.Author.Needs.{needs}
+use native.Mathlib.Nat.{zero-add}
 use native.Mathlib.Omega.{arith}
 use denote.Ref.{now}
 use borrow.Fn.Kinds.{In}
@@ -14,14 +15,17 @@ use Rattle.theory.specs.Search.{branchVariable}
 use Rattle.theory.specs.State.{opens, assign}
 use Rattle.occurrences.specs.Index.{formulaOf}
 use Rattle.tally.specs.Tally.{stateIn}
-use Rattle.search.specs.Branch.{branchOf}
+use Rattle.side.specs.Branch.{branchOf}
 use Rattle.engine.specs.Ready.{Rested}
 use Rattle.engine.proofs.Settles.{rested-settles}
 use Rattle.search.specs.Walk.{Beginning, walked, treeWalk, under}
 use Rattle.search.proofs.Outcomes.{other-outcome}
-use Rattle.search.proofs.Sides.{walkWeight, died-walk, rested-fewer, rested-branchable, rested-splittable, branch-open}
-use Rattle.search.proofs.Sides.{side-deep, side-room, side-siding, side-walkable, side-falls, side-walk, side-passable, out-is, taken-is}
-use Rattle.search.proofs.Walking.{walk-count, at-rest, leaf-walk, none-left, first-side, second-side}
+use Rattle.search.proofs.Sides.{died-walk, rested-fewer, rested-branchable, rested-splittable, branch-open}
+use Rattle.search.proofs.Sides.{side-deep, side-room, side-walkable, side-walk, side-passable}
+use Rattle.side.proofs.Calm.{out-is, taken-is}
+use Rattle.side.proofs.Splitting.{walkWeight, side-siding, side-falls}
+use Rattle.theory.proofs.Picking.{branch-picking, at-rest}
+use Rattle.search.proofs.Walking.{walk-count, leaf-walk, none-left, first-side, second-side}
 use Rattle.search.proofs.settle_and_decide.Reads as settle-and-decide
 use Rattle.search.proofs.settle_and_decide.Kinds as settle-and-decide-kinds
 use Rattle.search.proofs.+settle_and_decide+split.Lts-settle_and_decide as decide-lts
@@ -30,12 +34,12 @@ use Rattle.search.proofs.split.Kinds as split-kinds
 use Rattle.search.proofs.+settle_and_decide+split.Lts-split as split-lts
 use Rattle.literal.proofs.Literal.code.Reads as code-reads
 use Rattle.literal.proofs.Literal.opposite.Reads as opposite-reads
-use Rattle.search.proofs.begin_side.Reads as begin-side-reads
+use Rattle.side.proofs.begin.Reads as begin-reads
 use Rattle.search.proofs.below.Reads as below-reads
 use Rattle.search.proofs.branch_variable.Reads as branch-variable-reads
 use Rattle.engine.proofs.propagate.Reads as propagate-reads
 use Rattle.search.proofs.through.Reads as through-reads
-use Rattle.search.proofs.write_choice.Reads as write-choice-reads
+use Rattle.side.proofs.write_choice.Reads as write-choice-reads
 use Rattle.search.proofs.+settle_and_decide+split.{statement}
 use Rattle.search.proofs.+settle_and_decide+split.Tie.{close}
 
@@ -66,8 +70,8 @@ abbrev split-calls : ℕ → split-lts.Claims
 split-calls t = (
   code-reads.Asked,
   code-reads.Learnt,
-  begin-side-reads.Asked,
-  begin-side-reads.Learnt,
+  begin-reads.Asked,
+  begin-reads.Learnt,
   below-reads.Asked,
   below-reads.Learnt,
   settle-and-decide-below t,
@@ -106,13 +110,13 @@ branches-at t c = sym (c .before .before .branch-variable .ensures) ∙ ap branc
 -- a split and its two sides ----------------------------------------------------------------------------------------
 
 abbrev FirstBegun : ℕ → Type 0
-FirstBegun t = split-lts.After-begin-side (split-calls t) (split-at t) split.Post
+FirstBegun t = split-lts.After-begin (split-calls t) (split-at t) split.Post
 
 abbrev FirstWalked : ℕ → Type 0
 FirstWalked t = split-lts.After-settle-and-decide (split-calls t) (split-at t) split.Post
 
 abbrev SecondBegun : ℕ → Type 0
-SecondBegun t = split-lts.After-begin-side2 (split-calls t) (split-at t) split.Post
+SecondBegun t = split-lts.After-begin2 (split-calls t) (split-at t) split.Post
 
 abbrev SecondWalked : ℕ → Type 0
 SecondWalked t = split-lts.After-settle-and-decide2 (split-calls t) (split-at t) split.Post
@@ -152,7 +156,7 @@ first-walk : (t : ℕ) (f : FirstWalked t) →
 first-walk t f =
     let g = first t f in
     rw (f .before .before .before .below .ensures) at (f .settle-and-decide .ensures .0) ∙
-    side-walk (origin t f .pre .1) _ FALSE refl (first-is t g) (g .begin-side .last .1 .0) (g .begin-side .last .1 .1 .0) (g .begin-side .result) (g .begin-side .ensures) _ _ _
+    side-walk (origin t f .pre .1) _ FALSE refl (first-is t g) (g .begin .last .1 .0) (g .begin .last .1 .1 .0) (g .begin .result) (g .begin .ensures) _ _ _
 
 first-count : (t : ℕ) (f : FirstWalked t) → f .settle-and-decide .result .count + 1 ≤ origin t f .args .level .left
 first-count t f = omega (arith, walk-count _ _ _ _ _ _ _ (first-walk t f), some-left t f .if1 .left)
@@ -172,7 +176,7 @@ second-walk : (t : ℕ) (b : SecondWalked t) →
 second-walk t b =
     let g = second t b in
     rw (b .before .before .before .below2 .ensures) at (b .settle-and-decide2 .ensures .0) ∙
-    side-walk (origin t (earlier t b) .pre .1) _ TRUE refl (second-is t g) (g .begin-side2 .last .1 .0) (g .begin-side2 .last .1 .1 .0) (g .begin-side2 .result) (g .begin-side2 .ensures) _ _ _
+    side-walk (origin t (earlier t b) .pre .1) _ TRUE refl (second-is t g) (g .begin2 .last .1 .0) (g .begin2 .last .1 .1 .0) (g .begin2 .result) (g .begin2 .ensures) _ _ _
 
 pub +settle-and-decide+split-spec : {M : Type 1} → statement M
 +settle-and-decide+split-spec =
@@ -202,8 +206,8 @@ pub +settle-and-decide+split-spec : {M : Type 1} → statement M
     let e = r .before .before .before .before in
     let k = e .before .before .pre .1 .lasting in
     let g = begun t e in (
-      rw (e .if1 .left, c .before .before .write-choice .ensures)
-          (leaf-walk _ _ _ _ _ _ _ (at-rest (k .within) _ (g .well) _ (rested-settles (k .within) (g .well) (rested-at t r)) none (sym (b .branch-variable .ensures) ∙ ap branchOf (o .enum-told .given .1)))),
+      rw (e .if1 .left, c .before .before .write-choice .ensures, zero-add)
+          (leaf-walk _ _ _ _ _ _ _ (at-rest (k .within) (branch-picking (k .within)) 1 _ (g .well) _ (rested-settles (k .within) (g .well) (rested-at t r)) none (sym (b .branch-variable .ensures) ∙ ap branchOf (o .enum-told .given .1)))),
       rested-at t r .sound .whole,
     ))
     (λ c κs.
@@ -223,23 +227,23 @@ pub +settle-and-decide+split-spec : {M : Type 1} → statement M
     let e = r .before .before .before .before in
     let k = e .before .before .pre .1 .lasting in
     let g = begun t e in
-    (rw (e .if1 .left) (s .split .ensures .0 ∙ rw (at-rest (k .within) _ (g .well) _ (rested-settles (k .within) (g .well) (rested-at t r)) _ (branches-at t h))), s .split .ensures .1)))
+    (rw (e .if1 .left) (s .split .ensures .0 ∙ rw (at-rest (k .within) (branch-picking (k .within)) 1 _ (g .well) _ (rested-settles (k .within) (g .well) (rested-at t r)) _ (branches-at t h))), s .split .ensures .1)))
     (λ t. split-lts.spec (split-calls t) (split-at t) split.Post
     (λ c. let s = c .before .before .before in let a = s .args in
     (none-left (a .level .variables) (formulaOf (now (a .index))) (stateIn (now (a .state))) (a .p .0) _ _ _ _ (c .if1 .taken), s .pre .1 .whole))
     (λ c κs. let k = c .before .before .before .before .before .before .pre .1 in omega (arith, branch-open k .inside, k .lasting .small))
-    (λ c κs. let k = c .before .before .before .before .before .before .before .pre .1 in side-siding k _ (omega (arith, c .code .ensures)) _ (k .whole))
+    (λ c κs. let k = c .before .before .before .before .before .before .before .pre .1 in side-siding (k .calm) (k .lasting .small) (k .well) (branch-open k) _ (omega (arith, c .code .ensures)) _ (k .whole))
     (λ c. omega (arith, c .before .before .before .before .before .before .before .before .if1 .left))
     (λ c κs. let k = c .before .before .before .before .before .before .before .before .before .before .before .pre .1 in omega (arith, side-deep k, k .lasting .small))
     (λ c κs.
     let g = c .before .before .before .before .before .before in
     let s = start t g in
     let k = s .pre .1 in
-    let r = g .begin-side .result in
-    let st = g .begin-side .last .1 .0 in
-    let wk = g .begin-side .last .1 .1 .0 in
+    let r = g .begin .result in
+    let st = g .begin .last .1 .0 in
+    let wk = g .begin .last .1 .1 .0 in
     rw (c .before .before .below .ensures)
-    (omega (arith, side-falls k _ FALSE refl (first-is t g) st wk r (g .begin-side .ensures), s .pre .0), side-walkable k _ FALSE refl (first-is t g) st wk r (g .begin-side .ensures) _ _ _ refl refl))
+    (omega (arith, side-falls (k .calm) (k .lasting .small) (k .well) (branch-open k) _ FALSE refl (first-is t g) st wk r (g .begin .ensures), s .pre .0), side-walkable k _ FALSE refl (first-is t g) st wk r (g .begin .ensures) _ _ _ refl refl))
     (λ c. search needs)
     (λ c κs.
     let f = c .before .before .before .before .before in
@@ -260,7 +264,7 @@ pub +settle-and-decide+split-spec : {M : Type 1} → statement M
     (λ c. omega (arith, first-count t (c .before .before .before .before .before .before)))
     (λ c κs. search needs)
     (λ c κs. let k = origin t (c .before .before .before .before .before .before .before .before .before) .pre .1 in omega (arith, ap var (c .opposite .ensures), branch-open k .inside, k .lasting .small))
-    (λ c κs. let f = c .before .before .before .before .before .before .before .before .before .before in side-siding (origin t f .pre .1) _ (omega (arith, c .code2 .ensures ∙ ap codeOf (c .before .opposite .ensures))) _ (f .settle-and-decide .ensures .1))
+    (λ c κs. let f = c .before .before .before .before .before .before .before .before .before .before in let k = origin t f .pre .1 in side-siding (k .calm) (k .lasting .small) (k .well) (branch-open k) _ (omega (arith, c .code2 .ensures ∙ ap codeOf (c .before .opposite .ensures))) _ (f .settle-and-decide .ensures .1))
     (λ c. omega (arith, first-count t (c .before .before .before .before .before .before .before .before .before .before .before .before .before .before)))
     (λ c κs. let k = origin t (before t (c .before .before .before)) .pre .1 in omega (arith, side-deep k, k .lasting .small))
     (λ c κs.
@@ -268,12 +272,12 @@ pub +settle-and-decide+split-spec : {M : Type 1} → statement M
     let f = before t g in
     let s = origin t f in
     let k = s .pre .1 in
-    let r = g .begin-side2 .result in
-    let st = g .begin-side2 .last .1 .0 in
-    let wk = g .begin-side2 .last .1 .1 .0 in
+    let r = g .begin2 .result in
+    let st = g .begin2 .last .1 .0 in
+    let wk = g .begin2 .last .1 .1 .0 in
     rw (c .before .before .below2 .ensures) (
-      omega (arith, side-falls k _ TRUE refl (second-is t g) st wk r (g .begin-side2 .ensures), s .pre .0),
-      side-walkable k _ TRUE refl (second-is t g) st wk r (g .begin-side2 .ensures) _ _ _ (f .settle-and-decide .kept .1 .1 .1 .1 .1 .0) (f .settle-and-decide .kept .1 .1 .1 .1 .1 .1 .0),
+      omega (arith, side-falls (k .calm) (k .lasting .small) (k .well) (branch-open k) _ TRUE refl (second-is t g) st wk r (g .begin2 .ensures), s .pre .0),
+      side-walkable k _ TRUE refl (second-is t g) st wk r (g .begin2 .ensures) _ _ _ (f .settle-and-decide .kept .1 .1 .1 .1 .1 .0) (f .settle-and-decide .kept .1 .1 .1 .1 .1 .1 .0),
     ))
     (λ c κs.
     let b = c .before .before .before .before in

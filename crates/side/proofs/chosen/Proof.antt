@@ -1,8 +1,8 @@
 -- `chosen` meets its contract.
 use borrow.Author.Needs.{needs}
 use borrow.Author.Tests.{ne-eqb}
-use Rattle.search.proofs.chosen.Statement.{statement}
-use Rattle.search.proofs.chosen.Tie as tie
+use Rattle.side.proofs.chosen.Statement.{statement}
+use Rattle.side.proofs.chosen.Tie as tie
 
 pub chosen-spec : {M : Type 1} → statement M
 chosen-spec =

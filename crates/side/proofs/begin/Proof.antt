@@ -1,12 +1,12 @@
--- `begin_side` meets its contract, by the laws of Beginning.
+-- `begin` meets its contract, by the laws of Beginning.
 use mathlib.Core.Path.{ap, _∙_}
 use borrow.Author.Needs.{needs}
 use Rattle.notes.specs.Notes.{Notes}
-use Rattle.search.proofs.Beginning.{siding-decidable, siding-begun}
-use Rattle.search.proofs.begin_side.Statement.{statement}
-use Rattle.search.proofs.begin_side.Tie as tie
-use Rattle.search.proofs.begin_side.Reads as reads
-use Rattle.search.proofs.begin_side.Lts as lts
+use Rattle.side.proofs.Beginning.{siding-decidable, siding-begun}
+use Rattle.side.proofs.begin.Statement.{statement}
+use Rattle.side.proofs.begin.Tie as tie
+use Rattle.side.proofs.begin.Reads as reads
+use Rattle.side.proofs.begin.Lts as lts
 use Rattle.notes.proofs.set_roots_end.Reads as set-roots-end-reads
 use Rattle.notes.proofs.set_todo_end.Reads as set-todo-end-reads
 use Rattle.decide.proofs.decide.Reads as decide-reads
@@ -26,5 +26,5 @@ returns c =
     siding-begun (m .before .before .pre) (r .set-roots-end .last .0) (c .decide .last .1 .0) (c .decide .last .1 .1 .0) (k .1)
     (ap (λ (w : Notes). w .todoEnd) (k .0) ∙ ap (λ (w : Notes). w .todoEnd) (m .set-todo-end .ensures .0)) (ap (λ (w : Notes). w .rootsEnd) (k .0)) (c .decide .result) (c .decide .ensures)
 
-pub begin-side-spec : {M : Type 1} → statement M
-begin-side-spec = tie.close (tie.spec (λ c κs. search needs) (λ c κs. search needs) decide-requires returns)
+pub begin-spec : {M : Type 1} → statement M
+begin-spec = tie.close (tie.spec (λ c κs. search needs) (λ c κs. search needs) decide-requires returns)

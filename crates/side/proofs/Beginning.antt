@@ -16,7 +16,7 @@ use Rattle.notes.specs.Notes.{notesOf, Whole}
 use Rattle.moves.specs.Sound.{Sound}
 use Rattle.moves.specs.Deciding.{Decidable, Decided}
 use Rattle.engine.proofs.Begins.{ready-decided}
-use Rattle.search.specs.Side.{Tallied, Siding, Begun}
+use Rattle.side.specs.Side.{Tallied, Siding, Begun}
 
 -- with nothing listed a state is sound
 pub tallied-sound : {ix st wk : List ℕ} → Tallied ix st → Whole wk → notesOf wk .todoEnd ≡ 0 → notesOf wk .rootsEnd ≡ 0 → Sound ix st wk

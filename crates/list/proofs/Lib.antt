@@ -1,0 +1,5 @@
+pub mod Opens
+pub mod Rows
+pub mod Sides
+pub mod Starting
+pub mod Calling
