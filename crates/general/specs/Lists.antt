@@ -56,6 +56,17 @@ unfolding from
 from-same f g k zero h = refl
 from-same f g k (suc n) h = rw (h k (omega arith) (omega arith), from-same f g (suc k) n (λ i x y. h i (omega arith) (omega arith)))
 
+-- the index of an element
+pub mem-index : {A : Type 0} (l : List A) (x d : A) → List·Memᴰ x l → (i : ℕ) × (i < length l) × (getD l i d ≡ x)
+mem-index [] x d m = absurd (List·Memᴰ·not-nil m)
+mem-index (y ∷ l) x d m = ⊎-elim (λ e. (0, omega arith, sym e)) (λ k. let w = mem-index l x d k in (suc (w .0), omega (arith, w .1), w .2)) (List·Memᴰ·cases-cons m)
+
+-- an element of the first k
+pub take-mem : {A : Type 0} (k : ℕ) (l : List A) (x : A) → List·Memᴰ x (take k l) → List·Memᴰ x l
+take-mem zero l x m = absurd (List·Memᴰ·not-nil m)
+take-mem (suc k) [] x m = m
+take-mem (suc k) (y ∷ l) x m = ⊎-elim (λ e. List·Memᴰ·head e) (λ i. List·Memᴰ·tail (take-mem k l x i)) (List·Memᴰ·cases-cons m)
+
 -- an element by its index
 pub mem-getD : {A : Type 0} (l : List A) (i : ℕ) (d : A) → i < length l → List·Memᴰ (getD l i d) l
 mem-getD [] i d h = absurd (omega arith)

@@ -5,12 +5,12 @@ use mathlib.Core.List.{List, [], _∷_, _++_, append-assoc}
 use Prim.Native.Nat.{ℕ, suc, _+_, _*_, _-_, _≤_, _<_, min}
 use native.Mathlib.Nat.{add-mul, zero-mul, zero-add, mul-le-mul-right}
 use native.Mathlib.Omega.{arith}
-use borrow.Author.Tests.{lt-ltb, le-ltb, eq-eqb, ne-eqb}
+use borrow.Author.Tests.{lt-ltb, le-ltb, ne-eqb}
 use lib.Dec.{eqb, ltb}
 use lib.IntN.{ℤ}
 use lib.ListN.{length, take, drop, replicate, length-map}
 use lib.Seq.{take-all, take-nil}
-use Rattle.general.specs.Appending.{Appended, take-next, appended-past}
+use Rattle.general.specs.Appending.{take-next, appended-past}
 use Rattle.receipt.specs.declared.Checked.the-variants.{Refused}
 use Rattle.receipt.specs.declared.Fault.the-variants.{RowsShort}
 use Rattle.receipt.specs.declared.Listing.the-variants.{Ended}
@@ -19,7 +19,7 @@ use Rattle.receipt.specs.declared.Outcome.the-variants.{LaidOut, NoLayout, Stop
 use Rattle.receipt.specs.declared.Refusal.{Refusal}
 use Rattle.receipt.specs.Receipt.{refusal}
 use Rattle.receipt.specs.Answers.{listingReceipt}
-use Rattle.theory.specs.Calls.{over, listAnswer, listedCall, listRefused, listCall}
+use Rattle.theory.specs.Calls.{over, listedCall, listRefused, listCall}
 use Rattle.theory.specs.Formula.{Choice}
 use Rattle.theory.specs.Listing.{listTree, list, rowBytes, rowsOf}
 use Rattle.theory.specs.Table.{check, Accepted}

@@ -3,3 +3,4 @@ pub mod Rows
 pub mod Sides
 pub mod Starting
 pub mod Calling
+pub mod Promises

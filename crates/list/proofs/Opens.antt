@@ -1,19 +1,15 @@
 -- The lowest open variable by a walk over the variables, from one on below which none is open.
-use mathlib.Core.Path.{_≡_, refl, ap, sym, _∙_}
+use mathlib.Core.Path.{_≡_, refl, ap}
 use mathlib.Core.List.{List}
 use mathlib.Core.Option.{Option, none, some}
-use Prim.Native.Nat.{ℕ, _+_, _*_, _≤_, _<_}
+use Prim.Native.Nat.{ℕ, _+_, _≤_, _<_}
 use native.Mathlib.Decide.{ℕ-discrete}
 use native.Mathlib.Omega.{arith}
-use Rattle.literal.specs.declared.Literal.the-variants.{Pos}
-use Rattle.literal.specs.Literal.{codeOf, literalAt, maxVariables}
-use Rattle.literal.proofs.Codes.{literalAt-codeOf, codeOf-literalAt}
 use Rattle.theory.specs.Listing.{openVariable}
 use Rattle.theory.specs.Order.{IsLeast}
 use Rattle.theory.specs.State.{State, Open}
 use Rattle.theory.proofs.Listing.{open-least}
-use Rattle.state.proofs.Values.{stateOf-inside}
-use Rattle.tally.specs.Tally.{tallyOf, stateIn, valueIn}
+use Rattle.tally.specs.Tally.{stateIn}
 use Rattle.list.specs.Walk.{Shut, Openable}
 
 -- the lowest open variable is one below which none is open

@@ -1,19 +1,18 @@
 -- What a walk has done, from what its parts have done: a dead end, a leaf, and a split from its two sides.
 use mathlib.Core.Path.{_≡_, refl, ap, sym, _∙_}
-use mathlib.Core.List.{List, [], _∷_, _++_, map, append-nil}
-use Prim.Native.Nat.{ℕ, zero, suc, _+_, _*_, _-_, _≤_, _<_}
+use mathlib.Core.List.{List, [], _++_, map, append-nil}
+use Prim.Native.Nat.{ℕ, suc, _+_, _*_, _-_, _≤_, _<_}
 use native.Mathlib.Nat.{add-zero, suc-mul, mul-le-mul-right}
 use native.Mathlib.Omega.{arith}
 use lib.ListN.{length, take, drop, length-append, length-map}
-use lib.Seq.{take-append-add, take-append-le, take-length}
+use lib.Seq.{take-append-add, take-length}
 use Rattle.general.specs.Appending.{Appended, append-nothing, append-both, appended-past}
 use Rattle.general.specs.Booleans.{bit}
-use Rattle.literal.specs.declared.Literal.the-variants.{Pos, Neg}
 use Rattle.theory.specs.Formula.{Choice}
 use Rattle.theory.specs.Listing.{rowBytes}
 use Rattle.theory.specs.Search.{choiceOf}
 use Rattle.theory.specs.State.{State}
-use Rattle.theory.specs.Tree.{branch, Found, Run, run, through, split, choicesFound, visit}
+use Rattle.theory.specs.Tree.{branch, Found, Run, run, split, choicesFound, visit}
 use Rattle.theory.proofs.Leaves.{choice-long}
 use Rattle.theory.proofs.Rows.{rows-append}
 use Rattle.theory.proofs.Tree.{choices-split}
@@ -21,7 +20,7 @@ use Rattle.list.specs.declared.Ending.{Ending}
 use Rattle.list.specs.declared.Ending.the-variants.{All, More, Stopped}
 use Rattle.list.specs.declared.Level.{Level}
 use Rattle.list.specs.declared.Walk.{Walk}
-use Rattle.list.specs.Walk.{Rowable, under, counted, room, leafRun, Wrote, Halted, EndsIn, Walked}
+use Rattle.list.specs.Walk.{Rowable, under, counted, room, leafRun, Wrote, EndsIn, Walked}
 
 -- a row that is left lies within the room
 pub row-fits : (row rows n m : ℕ) → row < rows → rows * n ≤ m → row * n + n ≤ m

@@ -1,10 +1,9 @@
 -- What a walk may ask of the state that propagation leaves and of the two sides of a split.
-use mathlib.Core.Path.{_≡_, refl, ap, sym, _∙_}
+use mathlib.Core.Path.{_≡_, ap, sym, _∙_}
 use mathlib.Core.Bool.{Bool, true, false}
 use mathlib.Core.List.{List, []}
 use mathlib.Core.Option.{some}
-use Prim.Native.Nat.{ℕ, _+_, _≤_, _<_}
-use native.Mathlib.Decide.{ℕ-discrete}
+use Prim.Native.Nat.{ℕ, _+_, _≤_}
 use native.Mathlib.Omega.{arith}
 use lib.ListN.{length}
 use Rattle.literal.specs.declared.Literal.{Literal}
@@ -27,7 +26,7 @@ use Rattle.side.specs.Side.{Begun}
 use Rattle.side.proofs.Calm.{rested-calm}
 use Rattle.side.proofs.Splitting.{side-begins, side-dead}
 use Rattle.list.specs.declared.Level.{Level}
-use Rattle.list.specs.Walk.{Rowable, Lasting, Shut, Openable, Beginning, Begins, Walkable, Splittable, under, treeRun, runFrom}
+use Rattle.list.specs.Walk.{Lasting, Shut, Openable, Beginning, Begins, Walkable, Splittable, under, treeRun, runFrom}
 
 -- what is not open does not become open
 shut-refines : {n m : ℕ} {s u : State} (from : ℕ) → WellFormed n s → WellFormed n u → Refines s u → Shut m s from → Shut m u from

@@ -1,12 +1,12 @@
 -- The walk of a table from the initial state, wherever the steps of the start have led.
-use mathlib.Core.Path.{_≡_, ap, sym, _∙_}
+use mathlib.Core.Path.{_≡_, sym}
 use mathlib.Core.Bool.{Bool, true, false}
 use mathlib.Core.List.{List}
 use Prim.Native.Nat.{ℕ, suc, _-_}
 use native.Mathlib.Omega.{arith}
 use lib.IntN.{ℤ}
 use Rattle.theory.specs.Formula.{clauses, Within}
-use Rattle.theory.specs.Listing.{openTree, listTree}
+use Rattle.theory.specs.Listing.{listTree}
 use Rattle.theory.specs.State.{initial}
 use Rattle.theory.proofs.AtRest.{settled-same}
 use Rattle.theory.proofs.Listing.{open-picking}

@@ -1,7 +1,7 @@
 -- The branch variable by a walk over the variables: what stands in a wide clause of the index.
 use mathlib.Core.Path.{_≡_, ap, sym, _∙_}
 use mathlib.Core.Bool.{Bool, true, false}
-use mathlib.Core.List.{List, List·Memᴰ}
+use mathlib.Core.List.{List}
 use mathlib.Core.Option.{none, some}
 use Prim.Native.Nat.{ℕ, _+_, _*_, _≤_, _<_}
 use native.Mathlib.Decide.{ℕ-discrete}
@@ -9,22 +9,17 @@ use native.Mathlib.Omega.{arith}
 use Rattle.literal.specs.declared.Literal.the-variants.{Pos}
 use Rattle.literal.specs.Literal.{var, codeOf}
 use Rattle.literal.proofs.Codes.{codeOf-literalAt}
-use Rattle.theory.specs.Formula.{Clause}
 use Rattle.theory.specs.Search.{branchVariable}
-use Rattle.theory.specs.State.{State, value, standing, WellFormed}
+use Rattle.theory.specs.State.{value, standing}
 use Rattle.theory.proofs.Clauses.{standing-mem, mem-standing}
 use Rattle.theory.proofs.Counts.{holds-mentions, mentions-holds}
 use Rattle.theory.proofs.States.{fixed-pos, value-fixed}
-use Rattle.theory.proofs.Asks.{standing-no-false}
-use Rattle.theory.proofs.ByCount.{counted-closed}
-use Rattle.theory.proofs.Closed.{Closed}
 use Rattle.theory.proofs.Guard.{InWide, branch-from, branch-none}
 use Rattle.occurrences.specs.Index.{clauseOf, formulaOf}
 use Rattle.occurrences.proofs.Formulas.{mem-formula, formula-mem}
 use Rattle.state.proofs.Values.{stateOf-inside}
 use Rattle.tally.specs.Tally.{tallyOf, stateIn, valueIn}
 use Rattle.gather.specs.Gathering.{AtRoot, StandsLive}
-use Rattle.side.specs.Side.{Calm}
 use Rattle.side.proofs.Calm.{calm-closed, wider}
 use Rattle.search.specs.Branch.{Branching, BranchesOn, Branchable}
 

@@ -1,20 +1,19 @@
 -- What a walk may ask of the state that propagation leaves and of the two sides of a split.
-use mathlib.Core.Path.{_≡_, refl, ap, sym, _∙_}
+use mathlib.Core.Path.{_≡_, refl, _∙_}
 use mathlib.Core.Bool.{Bool, true, false}
 use mathlib.Core.List.{List}
-use mathlib.Core.Option.{none, some}
-use Prim.Native.Nat.{ℕ, suc, _+_, _*_, _/_, _≤_, _<_}
+use mathlib.Core.Option.{some}
+use Prim.Native.Nat.{ℕ, suc, _+_, _≤_, _<_}
 use native.Mathlib.Omega.{arith}
 use lib.IntN.{ℤ}
 use lib.ListN.{length}
 use mir.Syntax.{w32}
 use mir.Val.{Fits}
 use Rattle.literal.specs.declared.Literal.{Literal}
-use Rattle.literal.specs.declared.Literal.the-variants.{Pos, Neg}
-use Rattle.literal.specs.Literal.{TRUE, FALSE, var, codeOf, literalAt, codes}
+use Rattle.literal.specs.declared.Literal.the-variants.{Pos}
+use Rattle.literal.specs.Literal.{FALSE, var, literalAt}
 use Rattle.theory.specs.Formula.{Formula}
 use Rattle.theory.specs.Order.{Least}
-use Rattle.theory.specs.Propagation.{dead}
 use Rattle.theory.specs.Search.{branchVariable}
 use Rattle.theory.specs.State.{State, assign, opens, Open, WellFormed}
 use Rattle.theory.proofs.Guard.{Guard, guard-steps, guard-split}
@@ -24,7 +23,6 @@ use Rattle.theory.proofs.Propagation.{steps-well, steps-close}
 use Rattle.theory.proofs.States.{side}
 use Rattle.occurrences.specs.Index.{formulaOf}
 use Rattle.tally.specs.Tally.{stateIn}
-use Rattle.notes.specs.Notes.{Whole}
 use Rattle.moves.specs.Stepping.{Died}
 use Rattle.search.specs.declared.Level.{Level}
 use Rattle.engine.specs.Ready.{Rested}
@@ -33,7 +31,7 @@ use Rattle.side.specs.Side.{Begun}
 use Rattle.side.proofs.Calm.{calm-closed, rested-calm}
 use Rattle.side.proofs.Splitting.{side-dead}
 use Rattle.search.specs.Branch.{Branchable}
-use Rattle.search.specs.Walk.{Lasting, Beginning, Begins, Walkable, Splittable, Passable, under, walked, treeWalk, walkFrom}
+use Rattle.search.specs.Walk.{Lasting, Beginning, Begins, Walkable, Splittable, Passable, under, treeWalk, walkFrom}
 use Rattle.search.proofs.Walking.{dead-walk}
 
 -- propagation -------------------------------------------------------------------------------------------------------

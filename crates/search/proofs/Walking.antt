@@ -1,7 +1,7 @@
 -- Each return of the walk against the definition: what the tree under an allowance makes of a state, and of a split from what its sides make.
 use mathlib.Core.Path.{_≡_, refl, ap, sym, _∙_}
 use mathlib.Core.List.{List, [], _∷_, _++_, map}
-use mathlib.Core.Option.{Option, some}
+use mathlib.Core.Option.{some}
 use Prim.Native.Nat.{ℕ, suc, _+_, _-_, _<_, _≤_}
 use native.Mathlib.Decide.{decLe}
 use native.Mathlib.Numerals.{add-one}
@@ -14,10 +14,10 @@ use Rattle.literal.specs.declared.Literal.{Literal}
 use Rattle.literal.specs.declared.Literal.the-variants.{Pos, Neg}
 use Rattle.literal.specs.Literal.{TRUE, FALSE, entryOf}
 use Rattle.receipt.specs.declared.Outcome.the-variants.{LaidOut, NoLayout}
-use Rattle.theory.specs.Formula.{Formula, Choice, Within}
-use Rattle.theory.specs.Propagation.{Settled, dead, rest, settle}
-use Rattle.theory.specs.Search.{branchVariable, splitOn, decided, decide, treeFrom}
-use Rattle.theory.specs.State.{State, assign, WellFormed}
+use Rattle.theory.specs.Formula.{Formula, Choice}
+use Rattle.theory.specs.Propagation.{rest}
+use Rattle.theory.specs.Search.{splitOn, decide}
+use Rattle.theory.specs.State.{State, assign}
 use Rattle.theory.specs.Tree.{Found, Run, run, visit, tree, Result, finish, stop, limited}
 use Rattle.theory.specs.Calls.{over}
 use Rattle.theory.proofs.Budget.{limited-enough, limited-short, count-min, limited-nothing, past, split-none, split-first, split-second}

@@ -1,5 +1,5 @@
 -- A state at rest, where every clause has one of the three forms, is what propagation leaves; and the two literals of a variable to split on, by their codes.
-use mathlib.Core.Path.{_≡_, ap, _∙_}
+use mathlib.Core.Path.{_≡_}
 use mathlib.Core.List.{List, List·Memᴰ}
 use Prim.Native.Nat.{ℕ, _≤_}
 use native.Mathlib.Omega.{arith}

@@ -7,17 +7,16 @@ use Prim.Native.Nat.{ℕ, suc, _<_, _≤_, min}
 use native.Mathlib.Omega.{arith}
 use lib.IntN.{ℤ}
 use Rattle.theory.specs.Bound.{N}
-use Rattle.theory.specs.Formula.{Formula, Choice, assignment, clauses, Solution, Within}
+use Rattle.theory.specs.Formula.{Formula, Choice, clauses, Solution, Within}
 use Rattle.theory.specs.Order.{_≼_, Least, IsFirst}
-use Rattle.theory.specs.Propagation.{Settled, dead, rest, settle}
 use Rattle.receipt.specs.declared.Outcome.the-variants.{LaidOut, NoLayout, Stopped}
-use Rattle.theory.specs.Search.{decided, decide, treeFrom, treeOf, needs, search}
-use Rattle.theory.specs.State.{State, initial, opens, WellFormed}
+use Rattle.theory.specs.Search.{decide, treeOf, needs, search}
+use Rattle.theory.specs.State.{initial, opens, WellFormed}
 use Rattle.theory.specs.Table.{Accepted}
-use Rattle.theory.specs.Tree.{Found, visit, tree, finished, finish}
+use Rattle.theory.specs.Tree.{Found, finished, finish}
 use Rattle.theory.proofs.Agreement.{Extends}
 use Rattle.theory.proofs.Budget.{stopped-iff, count-min, larger-budget, limited-finished}
-use Rattle.theory.proofs.Propagation.{initial-well, Ends}
+use Rattle.theory.proofs.Propagation.{initial-well}
 use Rattle.theory.proofs.Picking.{branch-picking, picking-means}
 use Rattle.theory.proofs.Splits.{tree-bound}
 use Rattle.theory.proofs.States.{opens-bound}

@@ -29,7 +29,9 @@ pub mod Leaves
 pub mod Branching
 pub mod Splits
 pub mod Picking
+pub mod FewOpen
 pub mod Listing
+pub mod ListingBound
 pub mod Rows
 pub mod Forgetting
 pub mod Reasons

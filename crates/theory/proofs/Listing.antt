@@ -1,25 +1,26 @@
 -- The tree that splits on the lowest open variable: a leaf has one solution, all solutions with a variable left out come before those with it taken, and so it finds all in order.
-use mathlib.Core.Path.{_≡_, refl, ap, sym, _∙_}
-use mathlib.Core.Bool.{true, false}
-use mathlib.Core.Logic.{_↔_}
-use mathlib.Core.List.{List·Memᴰ}
+use mathlib.Core.Path.{_≡_, refl, ap, _∙_}
+use mathlib.Core.Bool.{false}
+use mathlib.Core.List.{List}
 use mathlib.Core.Option.{Option, none, some}
-use Prim.Native.Nat.{ℕ, suc, _≤_, _<_}
+use Prim.Native.Nat.{ℕ, suc, _≤_}
 use native.Mathlib.Decide.{decLt}
 use native.Mathlib.Omega.{arith}
+use lib.IntN.{ℤ}
 use lib.ListN.{take}
 use Rattle.general.specs.Booleans.{true-not-false}
 use Rattle.general.specs.Lists.{upTo}
 use Rattle.general.specs.Search.{find, FindsFrom, find-from}
 use Rattle.literal.specs.declared.Literal.the-variants.{Pos}
-use Rattle.literal.specs.Literal.{TRUE, FALSE, same}
-use Rattle.theory.specs.Formula.{Formula, Choice, assignment, Solution, Within}
+use Rattle.literal.specs.Literal.{same}
+use Rattle.theory.specs.Formula.{Formula, Choice, assignment, clauses, Solution, Within}
 use Rattle.theory.specs.Layouts.{layouts}
-use Rattle.theory.specs.Listing.{openVariable, decideOpen, openTree}
+use Rattle.theory.specs.Listing.{openVariable, decideOpen, openTree, listTree}
 use Rattle.theory.specs.Order.{_≼_, _≺_, Least, IsLeast, Firsts}
 use Rattle.theory.specs.Propagation.{step, Settled, dead, rest, settle}
 use Rattle.theory.specs.Search.{choiceOf, splitOn, decided}
-use Rattle.theory.specs.State.{State, initial, assign, opens, Open, WellFormed}
+use Rattle.theory.specs.State.{State, initial, opens, Open, WellFormed}
+use Rattle.theory.specs.Table.{Accepted}
 use Rattle.theory.specs.Tree.{choicesFound}
 use Rattle.theory.proofs.Agreement.{Extends}
 use Rattle.theory.proofs.Branching.{LeftOut, Taken, left-out-is, taken-is, sides-branches}
@@ -32,6 +33,7 @@ use Rattle.theory.proofs.Picking.{Right, Picking, Settles, settles-alik
 use Rattle.theory.proofs.Propagation.{initial-well, Ends}
 use Rattle.theory.proofs.Splits.{rests-closed, settle-ends}
 use Rattle.theory.proofs.States.{opens-bound}
+use Rattle.theory.proofs.Tables.{accepted-within}
 use Rattle.theory.proofs.Tree.{Strict, tree-firsts}
 
 -- the lowest open variable, or none where none is open
@@ -125,3 +127,9 @@ module _ {n : ℕ} {f : Formula} (within : Within n f) where
   -- so what it finds are the first of all layouts
   pub tree-layouts : (k : ℕ) → choicesFound (openTree n f (suc k) initial .found) ≡ take (suc k) (layouts n f)
   tree-layouts k = firsts-layouts n f (suc k) _ (tree-lists k)
+
+-- of a table that passes the check
+module _ (n : ℕ) (t : List ℤ) (accepted : Accepted n t) (k : ℕ) where
+  pub list-layouts : choicesFound (listTree n t k .found) ≡ take (suc k) (layouts n (clauses t))
+  unfolding listTree
+  list-layouts = tree-layouts (accepted-within n t accepted) k

@@ -71,7 +71,7 @@ pub record InLive (f : Formula) (s : State) (p : ℕ) : Type 0 where
   pub standing-in : List·Memᴰ literal (standing s clause)
   pub variable : p ≡ var literal
 
-pub in-live : {f : Formula} {s : State} (c : Clause) → List·Memᴰ c f → Alive (standing s c) → (x : Literal) → List·Memᴰ x (standing s c) → InLive f s (var x)
+abbrev pub in-live : {f : Formula} {s : State} (c : Clause) → List·Memᴰ c f → Alive (standing s c) → (x : Literal) → List·Memᴰ x (standing s c) → InLive f s (var x)
 in-live c m k x h = record { clause = c; member = m; lives = k; literal = x; standing-in = h; variable = refl }
 
 -- where no variable stands in a live clause there is none

@@ -4,6 +4,7 @@ use mathlib.Core.Logic.{_≢_, ⊎-elim}
 use mathlib.Core.Option.{Option, none, some}
 use mathlib.Core.List.{[], _∷_, List·Memᴰ, List·Memᴰ·head, List·Memᴰ·tail}
 use Prim.Native.Nat.{ℕ, suc, _+_, _-_, _<_, _≤_}
+use native.Mathlib.Decide.{ℕ-discrete}
 use native.Mathlib.Omega.{arith}
 use lib.ListN.{length}
 use Rattle.literal.specs.declared.Literal.{Literal}
@@ -11,7 +12,7 @@ use Rattle.literal.specs.declared.Literal.the-variants.{Pos, Neg}
 use Rattle.literal.specs.Literal.{TRUE, FALSE, var, opposite}
 use Rattle.theory.specs.Formula.{Clause, Formula, Within}
 use Rattle.theory.specs.Order.{IsLeast}
-use Rattle.theory.specs.State.{State, initial, value, replace, assign, standing, opens, WellFormed}
+use Rattle.theory.specs.State.{State, initial, value, replace, assign, standing, opens, Open, WellFormed}
 use Rattle.theory.specs.Rules.{occurs}
 use Rattle.theory.specs.Propagation.{step, Settled, dead, rest, settle}
 use Rattle.theory.specs.Bound.{N}
@@ -104,12 +105,14 @@ module _ {n : ℕ} {f : Formula} (within : Within n f) where
     -- three literals of different open variables, closed one after the other
     record Closes (x y z : Literal) : Type 0 where
       state : State
+      well : WellFormed n state
       fewer : opens state n + 3 ≡ opens u n
       kept : (q : ℕ) → u q ≡ Pos q → q ≢ var x → q ≢ var y → q ≢ var z → state q ≡ Pos q
 
     closes : (x y z : Literal) → Valid n u x FALSE → Valid n u y FALSE → Valid n u z FALSE → var y ≢ var x → var z ≢ var x → var z ≢ var y → Closes x y z
     closes x y z vx vy vz yx zx zy = record {
       state = assign z FALSE (assign y FALSE (assign x FALSE u));
+      well = assign-well (assign-well (assign-well w vx) vy′) vz″;
       fewer = omega (
         arith,
         opens-assign w vx n (vx .lower) (vx .inside),
@@ -160,6 +163,30 @@ module _ {n : ℕ} {f : Formula} (within : Within n f) where
           (alive-differ (h .lives) (h .literal) (b .third) (h .standing-in) (b .third-in) (b .third-apart))
           (alive-differ (h .lives) (b .second) (b .third) (b .second-in) (b .third-in) (b .apart))
 
+      -- a live clause has three open variables
+      pub live-three : 3 ≤ opens u n
+      live-three = omega (arith, live-closes .fewer)
+
+      -- where no more are open, all open variables stand in the clause
+      pub live-all : opens u n ≤ 3 → {q : ℕ} → Open n u q → (l : Literal) × List·Memᴰ l d × (var l ≡ q)
+      live-all few {q} o = elim (ℕ-discrete (var (h .literal)) q) [
+        | yes e ↦ (h .literal, h .standing-in, e)
+        | no x ↦ elim (ℕ-discrete (var (b .second)) q) [
+          | yes e ↦ (b .second, b .second-in, e)
+          | no y ↦ elim (ℕ-discrete (var (b .third)) q) [
+            | yes e ↦ (b .third, b .third-in, e)
+            | no z ↦
+                let root = live-closes .kept q (o .root) (λ e. x (sym e)) (λ e. y (sym e)) (λ e. z (sym e)) in
+                let left = side (live-closes .well) (record { positive = o .positive; inside = o .inside; root = root }) TRUE refl in
+                absurd (omega (arith, live-closes .fewer, left .closes))
+          ]
+        ]
+      ]
+
+      -- another literal of the clause
+      pub live-second : (l : Literal) × List·Memᴰ l d × (var l ≢ var (h .literal))
+      live-second = (b .second, b .second-in, alive-differ (h .lives) (h .literal) (b .second) (h .standing-in) (b .second-in) (b .second-apart))
+
       -- a literal with a constant for its value is not open
       shut : (v : State) (l k : Literal) → 0 < var l → value v l ≡ k → var k ≡ 0 → (q : ℕ) → v q ≡ Pos q → q ≢ var l
       shut v (Pos r) k o e i q g z = omega (arith, ap var (sym (rw z at g) ∙ e))
@@ -197,7 +224,7 @@ module _ {n : ℕ} {f : Formula} (within : Within n f) where
         where
           -- one variable fewer on one side, three on the other
           pays : 1 + N (opens u n - 1) + N (opens u n - 3) ≤ N m
-          pays = N-branch m (opens u n - 1) (opens u n - 3) (omega (arith, live-closes .fewer)) (omega (arith, live-closes .fewer))
+          pays = N-branch m (opens u n - 1) (opens u n - 3) (omega (arith, live-three)) (omega (arith, live-three))
 
           -- what the step makes of its own variable
           stepped : (t : Literal) → value (assign (Pos p) t u) (Pos p) ≡ t

@@ -2,7 +2,7 @@
 use mathlib.Core.Bool.{cond}
 use mathlib.Core.List.{List, [], _∷_, _++_, map}
 use mathlib.Core.Option.{Option, none, some}
-use Prim.Native.Nat.{ℕ, suc, _+_, _-_, min}
+use Prim.Native.Nat.{ℕ, suc, _-_, min}
 use lib.Dec.{eqb}
 use lib.IntN.{ℤ, pos as posℤ}
 use lib.ListN.{length, replicate}

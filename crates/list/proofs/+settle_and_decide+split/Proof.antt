@@ -28,7 +28,6 @@ use Rattle.side.proofs.Calm.{out-is, taken-is}
 use Rattle.side.proofs.Splitting.{walkWeight, side-siding, side-falls}
 use Rattle.list.specs.declared.Ending.the-variants.{All}
 use Rattle.list.specs.declared.Level.{Level}
-use Rattle.list.specs.declared.Walk.{Walk}
 use Rattle.list.specs.Walk.{Beginning, Walked, room, treeRun, under}
 use Rattle.list.proofs.Rows.{same-walked, walked-rows, walked-count, dead-walked, none-left, first-side, second-side}
 use Rattle.list.proofs.Sides.{died-run, rested-fewer, rested-openable, rested-splittable, branch-open, side-walkable, side-run}

@@ -1,7 +1,6 @@
 -- `open_variable` meets its contract, by the laws of Opens.
 use mathlib.Core.Path.{sym, _∙_}
 use Prim.Native.Nat.{_+_, _-_, _≤_}
-use borrow.Author.Needs.{needs}
 use native.Mathlib.Omega.{arith}
 use denote.Ref.{now}
 use Rattle.tally.specs.Tally.{stateIn}
@@ -10,9 +9,6 @@ use Rattle.side.proofs.Splitting.{open-code, code-open}
 use Rattle.list.proofs.Opens.{Passed, lowest-is, lowest-none, shut-more}
 use Rattle.list.proofs.open_variable.Statement.{statement}
 use Rattle.list.proofs.open_variable.Tie as tie
-use Rattle.list.proofs.open_variable.Reads as reads
-use Rattle.list.proofs.open_variable.Lts as lts
-use Rattle.tally.proofs.value_of.Reads as value-of-reads
 
 abbrev Inv-loop : tie.InvT-loop
 Inv-loop state from n p₀ p-end p = Passed state from n p

@@ -8,11 +8,6 @@ use Rattle.list.proofs.Rows.{same-walked}
 use Rattle.list.proofs.Starting.{start-walkable, start-run}
 use Rattle.list.proofs.walk_table.Statement.{statement}
 use Rattle.list.proofs.walk_table.Tie as tie
-use Rattle.list.proofs.walk_table.Reads as reads
-use Rattle.list.proofs.walk_table.Lts as lts
-use Rattle.occurrences.proofs.build.Reads as build-reads
-use Rattle.list.proofs.settle_and_decide.Reads as settle-and-decide-reads
-use Rattle.start.proofs.start.Reads as start-reads
 
 build-requires : tie.Need-build-requires
 build-requires c κs = within-all (accepted-sizes _ _ (c .before .pre .accepted))

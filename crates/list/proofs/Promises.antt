@@ -1,0 +1,381 @@
+-- Document 02's A6 and the user's demands, said of a call's own answer, by its number, place and count on the receipt, and of the rows after it.
+-- All of it follows from the equation that `list` ensures.
+use mathlib.Core.Path.{_≡_, refl, ap, sym, _∙_}
+use mathlib.Core.Logic.{_⊎_, inl, inr, ⊎-elim, _↔_}
+use mathlib.Core.List.{List, [], _∷_, map, List·Memᴰ}
+use Prim.Native.Nat.{ℕ, suc, _+_, _*_, _-_, _^_, _≤_, _<_, min}
+use native.Mathlib.Decide.{ℕ-discrete, decLe, decLt}
+use native.Mathlib.Nat.{zero-mul}
+use native.Mathlib.Omega.{arith}
+use borrow.Author.Tests.{ltb-true, lt-ltb, le-ltb}
+use lib.Dec.{ltb}
+use lib.IntN.{ℤ}
+use lib.ListN.{length, getD, take, drop, replicate, length-take, length-map, length-replicate}
+use lib.Seq.{take-at, drop-at, take-take, take-nil}
+use Rattle.general.specs.Booleans.{bit, cond-ind, true-not-false}
+use Rattle.general.specs.Lists.{mem-getD, mem-index}
+use Rattle.receipt.specs.declared.Checked.{Checked}
+use Rattle.receipt.specs.declared.Checked.the-variants.{Passed, Refused}
+use Rattle.receipt.specs.declared.Fault.the-variants.{RowsShort}
+use Rattle.receipt.specs.declared.Listing.the-variants as listing
+use Rattle.receipt.specs.declared.Outcome.{Outcome}
+use Rattle.receipt.specs.declared.Outcome.the-variants.{LaidOut, NoLayout, Stopped}
+use Rattle.receipt.specs.declared.Refusal.{Refusal}
+use Rattle.receipt.specs.Receipt.{unknownVariable, outcomeNumber, refusal}
+use Rattle.receipt.specs.Answers.{listingReceipt, saysMore}
+use Rattle.receipt.proofs.Numbers.{outcome-answers, same-outcome}
+use Rattle.receipt.proofs.Numbers as numbers
+use Rattle.theory.specs.Calls.{over, SearchCall, ListCall, listedCall, listRefused, listChecked, listCall}
+use Rattle.theory.specs.Formula.{Choice, clauses, Solution}
+use Rattle.theory.specs.Layouts.{layouts}
+use Rattle.theory.specs.Listing.{listTree, listNeeds, list, rowBytes, rowsOf}
+use Rattle.theory.specs.Order.{_≼_, _≺_, Least}
+use Rattle.theory.specs.Table.{check, Accepted, WithinLimits}
+use Rattle.theory.specs.Tree.{Found, choicesFound, Result, finished, finish, stop}
+use Rattle.theory.specs.Unknown.{UnknownInTable, Names}
+use Rattle.theory.proofs.Ascending.{ascends-at}
+use Rattle.theory.proofs.Budget.{stopped-iff, count-min, limited-finished, limited-short, larger-budget}
+use Rattle.theory.proofs.Layouts.{layouts-exactly, layouts-ascend, layouts-most}
+use Rattle.theory.proofs.Listing.{list-layouts}
+use Rattle.theory.proofs.ListingBound.{list-under, list-bound, list-bound-all}
+use Rattle.theory.proofs.Order.{≼-antisym}
+use Rattle.theory.proofs.Rows.{rows-whole, rows-row, rows-zero, bits-same}
+use Rattle.theory.proofs.Tables.{accepted-sizes, accepted-exactly}
+use Rattle.theory.proofs.Unknown.{none-named, check-names}
+use Rattle.search.specs.Call as search
+use Rattle.search.proofs.Promises.{first-layout, layout-when-some}
+use Rattle.list.specs.Call.{Acceptable, Call, NotRefused, Reports, countOf, placeOf, More, RowIs, Alike}
+use Rattle.list.proofs.Calling.{call-refused, call-rows-short, call-accepted}
+
+-- what is accepted -------------------------------------------------------------------------------------------------
+
+-- an acceptable call is a listing of the table
+listed : {n : ℕ} {t : List ℤ} {k b : ℕ} {rows : List ℕ} {s : ListCall} → Call n t k b rows s → s ≡ listedCall n k (list n t k b) rows
+listed {n} {t} {k} {b} {rows} c = let h = c .acceptable in c .is ∙ sym (call-accepted n t k b rows (accepted-exactly n t .1 (h .table)) (h .room))
+
+module _ (n : ℕ) (t : List ℤ) (k b : ℕ) (rows : List ℕ) where
+  -- a call that is refused
+  abbrev Turned : Type 0
+  Turned = (w : Refusal) × (listRefused w rows ≡ listCall n t k b rows) × ¬ Acceptable n t k rows
+
+  fate : Turned ⊎ Acceptable n t k rows
+  fate = go (check n t) refl
+    where
+      go : (o : Checked) → check n t ≡ o → Turned ⊎ Acceptable n t k rows
+      go (Refused w) e = inl (w, call-refused n t k b rows w e, λ h. let z : _≡_ {A = ℕ} 0 1 = cc (accepted-exactly n t .1 (h .table)) in omega arith)
+      go Passed e = elim (decLt (length rows) (k * n)) [
+        | yes h ↦ inl (_, call-rows-short n t k b rows e h, λ a. omega (arith, a .room))
+        | no h ↦ inr (record { table = accepted-sizes n t e; room = omega arith })
+      ]
+
+  -- past the check of the table no call is refused with 5
+  passed-names : {Where : ℕ → ℕ → Type 0} → Names Where (listingReceipt (listChecked Passed n t k b rows .answer))
+  passed-names {Where} = cond-ind NamesAt _ _ (ltb (length rows) (k * n)) (λ _. none-named 27 0 0 (λ e. omega arith))
+      (λ _. none-named _ _ _ (λ e. numbers.not-refused (unknownVariable 0) _ (outcome-answers (list n t k b .outcome)) (sym e)))
+    where
+      NamesAt : ListCall → Type 0
+      NamesAt c = Names Where (listingReceipt (c .answer))
+
+  module _ (s : ListCall) (is : s ≡ listCall n t k b rows) where
+    not-refused : Acceptable n t k rows → NotRefused s
+    not-refused h w e = let z : _≡_ {A = ℕ} 0 1 = cc (ap (λ (u : ListCall). u .answer) (listed (record { acceptable = h; is = is }))) in omega arith
+
+    -- demand 1: "Every table .. within the limits of document 01, with room lent for the results, is accepted"; "Every other input is refused"
+    pub list-accepts : NotRefused s ↔ Acceptable n t k rows
+    list-accepts = (λ a. ⊎-elim (λ r. absurd (a (r .0) (ap (λ (u : ListCall). u .answer) (is ∙ sym (r .1))))) (λ h. h) fate, not-refused)
+
+    -- demand 1: "a refused call changes no lent element"; and it has no "more"
+    pub list-refused-unchanged : (w : Refusal) → s .answer ≡ listing.Refused w → (s .rows ≡ rows) × ¬ More s
+    list-refused-unchanged w e = (
+      ⊎-elim (λ r. ap (λ (u : ListCall). u .rows) (is ∙ sym (r .1))) (λ h. absurd (not-refused h w e)) fate,
+      λ m. true-not-false m (ap saysMore e),
+    )
+
+    -- "Turned away: 1 to 5,
+    pub list-table-refused : (w : Refusal) → check n t ≡ Refused w → s .answer ≡ listing.Refused w
+    list-table-refused w e = ap (λ (u : ListCall). u .answer) (is ∙ sym (call-refused n t k b rows w e))
+
+    -- then 27, row room under k times n."
+    pub list-rows-short : WithinLimits n t → length rows < k * n → s .answer ≡ listing.Refused (refusal RowsShort 0)
+    list-rows-short h l = ap (λ (u : ListCall). u .answer) (is ∙ sym (call-rows-short n t k b rows (accepted-exactly n t .1 h) l))
+
+    -- A2: 5 is for the first unknown placement, with its group; "for all other numbers it is 0"
+    pub list-names : Names (UnknownInTable n t) (listingReceipt (s .answer))
+    unfolding listCall
+    list-names = rw is (check-names n t (λ o. listingReceipt (listChecked o n t k b rows .answer)) (λ w. refl) passed-names)
+
+-- accepted calls ---------------------------------------------------------------------------------------------------
+
+module _ {n : ℕ} {t : List ℤ} {k b : ℕ} {rows : List ℕ} {s : ListCall} (c : Call n t k b rows s) where
+  -- all layouts, in order: "each once"
+  abbrev all : List Choice
+  all = layouts n (clauses t)
+
+  abbrev r : Result Choice
+  r = list n t k b
+
+  accepted : Accepted n t
+  accepted = accepted-exactly n t .1 (c .acceptable .table)
+
+  reports : (o : Outcome) → Reports s o ↔ (r .outcome ≡ o)
+  reports o =
+      let e = ap (λ (u : ListCall). listingReceipt (u .answer) .number) (listed c) in
+      (λ h. same-outcome (r .outcome) o (sym e ∙ h), λ h. e ∙ ap outcomeNumber h)
+
+  count-is : countOf s ≡ r .count
+  count-is = ap countOf (listed c)
+
+  place-is : placeOf s ≡ min k (length (r .found))
+  place-is = ap placeOf (listed c)
+
+  more-is : saysMore (s .answer) ≡ ltb k (length (r .found))
+  more-is = ap (λ (u : ListCall). saysMore (u .answer)) (listed c)
+
+  rows-are : s .rows ≡ over (k * n) (rowsOf n k (choicesFound (r .found))) rows
+  rows-are = ap (λ (u : ListCall). u .rows) (listed c)
+
+  -- demand 1: "a layout, no layout, or a stop"
+  pub list-ends : Reports s LaidOut ⊎ Reports s NoLayout ⊎ Reports s Stopped
+  list-ends = go (r .outcome) refl
+    where
+      go : (o : Outcome) → r .outcome ≡ o → Reports s LaidOut ⊎ Reports s NoLayout ⊎ Reports s Stopped
+      go LaidOut e = inl (reports LaidOut .1 e)
+      go NoLayout e = inr (inl (reports NoLayout .1 e))
+      go Stopped e = inr (inr (reports Stopped .1 e))
+
+  -- stopped ----------------------------------------------------------------------------------------------------------
+
+  -- demand 3 for this tree: it stops exactly when the tree needs more splits than allowed
+  pub list-stops-exactly : Reports s Stopped ↔ (b < listNeeds n t k)
+  unfolding list
+  list-stops-exactly =
+      let w = stopped-iff b (listTree n t k) in
+      (λ e. w .0 (reports Stopped .0 e), λ h. reports Stopped .1 (w .1 h))
+
+  -- "its splits are the count": the smaller of what the tree needs and the allowance
+  pub list-count-smaller : countOf s ≡ min (listNeeds n t k) b
+  unfolding list
+  list-count-smaller = count-is ∙ count-min b (listTree n t k)
+
+  stopped-is : Reports s Stopped → r ≡ stop b
+  unfolding list
+  stopped-is e = limited-short b (listTree n t k) (list-stops-exactly .0 e)
+
+  stopped-rows : Reports s Stopped → rowsOf n k (choicesFound (r .found)) ≡ replicate (k * n) 0
+  unfolding rowBytes
+  stopped-rows e =
+      let none-taken : k - 0 ≡ k = omega arith in
+      ap (λ (x : Result Choice). rowsOf n k (choicesFound (x .found))) (stopped-is e) ∙ rw (take-nil k, none-taken)
+
+  -- "Stopped: place 0, the first k times n bytes 0, no "more", the count is the allowance"
+  pub list-stop : Reports s Stopped → (placeOf s ≡ 0) × (take (k * n) (s .rows) ≡ replicate (k * n) 0) × ¬ More s × (countOf s ≡ b)
+  list-stop e =
+      let q = stopped-is e in
+      let none-found : length (r .found) ≡ 0 = ap (λ (x : Result Choice). length (x .found)) q in
+      let empty = stopped-rows e in (
+        omega (arith, place-is),
+        ap (take (k * n)) rows-are ∙ rw empty (take-at (replicate (k * n) 0) (drop (k * n) rows) (k * n) (length-replicate (k * n) 0)),
+        λ m. true-not-false m (more-is ∙ le-ltb k (length (r .found)) (omega arith)),
+        omega (arith, list-count-smaller, list-stops-exactly .0 e),
+      )
+
+  -- finished -----------------------------------------------------------------------------------------------------------
+
+  module _ (ends : ¬ Reports s Stopped) where
+    finished-is : r ≡ finish (listTree n t k)
+    unfolding list
+    finished-is = limited-finished b (listTree n t k) (λ e. ends (reports Stopped .1 e))
+
+    found-is : choicesFound (r .found) ≡ take (suc k) all
+    found-is = ap (λ (x : Result Choice). choicesFound (x .found)) finished-is ∙ list-layouts n t accepted k
+
+    found-length : length (r .found) ≡ min (suc k) (length all)
+    found-length = sym (length-map (r .found) (λ a. a .choice)) ∙ ap length found-is ∙ length-take (suc k) all
+
+    long : (d : Choice) → List·Memᴰ d all → length d ≡ n
+    long d m = layouts-exactly n (clauses t) d .0 m .long
+
+    rows-as : rowsOf n k (choicesFound (r .found)) ≡ rowsOf n k all
+    rows-as =
+        let e : k - length (take (suc k) all) ≡ k - length all = omega (arith, length-take (suc k) all) in
+        rw (found-is, take-take k (suc k) all (omega arith), e)
+
+    -- "The rows are all layouts in document 01's order, each once, up to k"; "Unused rows become 0."
+    pub list-rows : take (k * n) (s .rows) ≡ rowsOf n k all
+    list-rows = ap (take (k * n)) rows-are ∙ rw rows-as (take-at (rowsOf n k all) (drop (k * n) rows) (k * n) (rows-whole n k all long))
+
+    -- "the number of rows is the smaller of k and the number of layouts"
+    pub list-place : placeOf s ≡ min k (length all)
+    list-place = omega (arith, place-is, found-length)
+
+    -- ""more" exactly when there are more than k"
+    pub list-more-exactly : More s ↔ (k < length all)
+    list-more-exactly = (
+      λ m. omega (arith, found-length, ltb-true k (length (r .found)) (sym more-is ∙ m)),
+      λ h. more-is ∙ lt-ltb k (length (r .found)) (omega (arith, found-length)),
+    )
+
+    row-bytes : (i : ℕ) → i < placeOf s → (d : Choice) → RowIs n s i (getD all i d)
+    row-bytes i h d = ap (λ (l : List ℕ). take n (drop (i * n) l)) (rows-are ∙ ap (λ (l : List ℕ). over (k * n) l rows) rows-as) ∙
+        rows-row n k all long (drop (k * n) rows) i (omega (arith, list-place)) d
+
+    -- "every layout is a row, or "more" is said and it comes after the rows"
+    pub list-layout-row : (d : Choice) → Solution n (clauses t) d → ((i : ℕ) × (i < placeOf s) × RowIs n s i d) ⊎ (More s × ((i : ℕ) (e : Choice) → i < placeOf s → RowIs n s i e → e ≺ d))
+    list-layout-row d h =
+        let w = mem-index all d [] (layouts-exactly n (clauses t) d .1 h) in
+        elim (decLt (w .0) k) [
+          | yes l ↦ let q = row-bytes (w .0) (omega (arith, list-place, w .1)) [] in inl (w .0, omega (arith, list-place, w .1), q ∙ ap (map bit) (w .2))
+          | no l ↦ inr (
+            list-more-exactly .1 (omega (arith, w .1)),
+            λ i e j q.
+                let is : e ≡ getD all i [] = bits-same e (getD all i []) (sym q ∙ row-bytes i j []) in
+                let up : getD all i [] ≺ getD all (w .0) [] = ascends-at _≺_ all (layouts-ascend n (clauses t)) i (w .0) (omega (arith, list-place)) (w .1) [] in
+                rw (is, ← w .2) up,
+          )
+        ]
+
+    -- "Unused rows become 0."
+    pub list-unused-zero : drop (placeOf s * n) (take (k * n) (s .rows)) ≡ replicate ((k - placeOf s) * n) 0
+    list-unused-zero = rw (list-rows, list-place) (rows-zero n k all long)
+
+    outcome-is : r .outcome ≡ finished (r .found)
+    outcome-is = ap (λ (x : Result Choice). x .outcome) finished-is ∙ sym (ap (λ (x : Result Choice). finished (x .found)) finished-is)
+
+    some-found : (d : Choice) → Solution n (clauses t) d → 0 < length (r .found)
+    some-found d h = let w = mem-index all d [] (layouts-exactly n (clauses t) d .1 h) in omega (arith, found-length, w .1)
+
+    -- "The number is 0 if any layout exists,
+    pub list-laid-out-exactly : Reports s LaidOut ↔ ((d : Choice) × Solution n (clauses t) d)
+    list-laid-out-exactly = (λ e. go (r .found) refl (sym outcome-is ∙ reports LaidOut .0 e), λ h. reports LaidOut .1 (outcome-is ∙ back (r .found) (some-found (h .0) (h .1))))
+      where
+        go : (l : List (Found Choice)) → r .found ≡ l → finished l ≡ LaidOut → (d : Choice) × Solution n (clauses t) d
+        go [] q e = absurd (let z : _≡_ {A = ℕ} 0 1 = cc in omega arith)
+        go (a ∷ l) q e =
+            let one : 0 < length all = omega (arith, found-length, ap length q) in
+            (getD all 0 [], layouts-exactly n (clauses t) (getD all 0 []) .0 (mem-getD all 0 [] one))
+
+        back : (l : List (Found Choice)) → 0 < length l → finished l ≡ LaidOut
+        back [] h = absurd (omega arith)
+        back (a ∷ l) h = refl
+
+    -- else 10"
+    pub list-no-layout-exactly : Reports s NoLayout ↔ ((d : Choice) → ¬ Solution n (clauses t) d)
+    list-no-layout-exactly = (
+      λ e d h. let z : _≡_ {A = ℕ} 0 1 = cc (sym (reports NoLayout .0 e) ∙ reports LaidOut .0 (list-laid-out-exactly .1 (d, h))) in omega arith,
+      λ h. ⊎-elim (λ e. let w = list-laid-out-exactly .0 e in absurd (h (w .0) (w .1))) (⊎-elim (λ e. e) (λ e. absurd (ends e))) list-ends,
+    )
+
+  -- wherever there is a row ----------------------------------------------------------------------------------------
+
+  row-finishes : (i : ℕ) → i < placeOf s → ¬ Reports s Stopped
+  row-finishes i h e = omega (arith, list-stop e .0)
+
+  row-choice : (i : ℕ) → i < placeOf s → (d : Choice) → RowIs n s i d → d ≡ getD all i []
+  row-choice i h d q = bits-same d (getD all i []) (sym q ∙ row-bytes (row-finishes i h) i h [])
+
+  -- "every row is a layout"
+  pub list-row-layout : (i : ℕ) → i < placeOf s → (d : Choice) × Solution n (clauses t) d × RowIs n s i d
+  list-row-layout i h =
+      let ends = row-finishes i h in
+      (getD all i [], layouts-exactly n (clauses t) (getD all i []) .0 (mem-getD all i [] (omega (arith, list-place ends))), row-bytes ends i h [])
+
+  -- "they strictly ascend"
+  pub list-rows-ascend : (i j : ℕ) → i < j → j < placeOf s → (d e : Choice) → RowIs n s i d → RowIs n s j e → d ≺ e
+  list-rows-ascend i j h l d e p q =
+      let place = list-place (row-finishes j l) in
+      rw (row-choice i (omega arith) d p, row-choice j l e q) (ascends-at _≺_ all (layouts-ascend n (clauses t)) i j h (omega arith) [])
+
+  -- "elements past k times n stay"
+  pub list-rest-kept : drop (k * n) (s .rows) ≡ drop (k * n) rows
+  list-rest-kept = ap (drop (k * n)) rows-are ∙ drop-at (rowsOf n k (choicesFound (r .found))) (drop (k * n) rows) (k * n) whole
+    where
+      whole : length (rowsOf n k (choicesFound (r .found))) ≡ k * n
+      whole = elim (decLt b (listNeeds n t k)) [
+        | yes h ↦ ap length (stopped-rows (list-stops-exactly .1 h)) ∙ length-replicate (k * n) 0
+        | no h ↦ let ends : ¬ Reports s Stopped = λ e. h (list-stops-exactly .0 e) in ap length (rows-as ends) ∙ rows-whole n k all (long ends)
+      ]
+
+  -- "For n = 0 there is one layout or none."
+  pub list-of-none : n ≡ 0 → ¬ Reports s Stopped → (placeOf s ≤ 1) × (0 < k → ¬ More s)
+  list-of-none e ends =
+      let one : 2 ^ n ≡ 1 = ap (λ (m : ℕ). 2 ^ m) e in
+      (omega (arith, list-place ends, layouts-most n (clauses t)), λ h m. omega (arith, list-more-exactly ends .0 m, layouts-most n (clauses t)))
+
+  -- how many splits ------------------------------------------------------------------------------------------------
+
+  -- the tree never needs as many splits as there are choices
+  pub list-count-under : countOf s < 2 ^ n
+  list-count-under = omega (arith, list-count-smaller, list-under n t accepted k)
+
+  -- "a bound on the count in terms of n and k"
+  needs-bound : 8 * listNeeds n t k ≤ 2 ^ n + 7 * k + 16
+  needs-bound =
+      let found : length (listTree n t k .found) ≡ min (suc k) (length all) =
+      sym (length-map (listTree n t k .found) (λ a. a .choice)) ∙ ap length (list-layouts n t accepted k) ∙ length-take (suc k) all in
+      omega (arith, list-bound n t accepted k)
+
+  pub list-count-bound : 8 * countOf s ≤ 2 ^ n + 7 * k + 16
+  list-count-bound = omega (arith, list-count-smaller, needs-bound)
+
+  -- an allowance of either finishes
+  pub list-bound-finishes : (2 ^ n ≤ suc b) ⊎ (2 ^ n + 7 * k + 16 ≤ 8 * b) → ¬ Reports s Stopped
+  list-bound-finishes h e = ⊎-elim
+      (λ l. omega (arith, list-stops-exactly .0 e, list-under n t accepted k))
+      (λ l. omega (arith, list-stops-exactly .0 e, needs-bound))
+      h
+
+  -- where all layouts are rows, in terms of their number
+  pub list-count-all : ¬ Reports s Stopped → ¬ More s → 8 * countOf s ≤ 2 ^ n + 7 * placeOf s - 8
+  list-count-all ends none =
+      let f : length (r .found) ≡ length (listTree n t k .found) = ap (λ (x : Result Choice). length (x .found)) (finished-is ends) in
+      let few : length (r .found) ≤ k = elim (decLe (length (r .found)) k) [ yes h ↦ h | no h ↦ absurd (none (more-is ∙ lt-ltb k (length (r .found)) (omega arith))) ] in
+      omega (arith, list-count-smaller, list-bound-all n t accepted k (omega arith), place-is)
+
+  -- the first row comes before the first layout, if it is not that
+  first-before : (h : 0 < placeOf s) (d : Choice) → Least _≼_ (Solution n (clauses t)) d → list-row-layout 0 h .0 ≼ d
+  first-before h d w = ⊎-elim at-row (λ x. x .1 0 first h (row .2) .0) (list-layout-row (row-finishes 0 h) d (w .member))
+    where
+      row : (e : Choice) × Solution n (clauses t) e × RowIs n s 0 e
+      row = list-row-layout 0 h
+
+      first : Choice
+      first = row .0
+
+      at-row : ((i : ℕ) × (i < placeOf s) × RowIs n s i d) → first ≼ d
+      at-row x = elim (ℕ-discrete (x .0) 0) [
+        | yes z ↦
+            let same : first ≡ d = row-choice 0 h first (row .2) ∙ sym (row-choice 0 h d (rw z at (x .2))) in
+            rw same (w .least d (w .member))
+        | no z ↦ list-rows-ascend 0 (x .0) (omega arith) (x .1) first d (row .2) (x .2) .0
+      ]
+
+  -- "The first row, where there is one, equals the plan of a plain search that isn't stopped."
+  pub list-first-row : {b′ : ℕ} {plan : List ℕ} {trail : List ℤ} {u : SearchCall} → 0 < placeOf s → search.Call n t b′ plan trail u → ¬ search.Reports u Stopped →
+      take n (s .rows) ≡ take n (u .plan)
+  list-first-row {u = u} h v going =
+      let row = list-row-layout 0 h in
+      let w = first-layout v (layout-when-some v going (row .0) (row .1)) in
+      let front : 0 * n ≡ 0 = zero-mul n in
+      rw front at (row .2) ∙ ap (map bit) (≼-antisym (row .0) (w .0) (first-before h (w .0) (w .1)) (w .1 .least (row .0) (row .1))) ∙ sym (w .2)
+
+-- demand 3: "Whatever the allowance, and whatever" the rows held before ------------------------------------------------
+
+module _ {n : ℕ} {t : List ℤ} {k b b′ : ℕ} {rows rows′ : List ℕ} {s s′ : ListCall} where
+  -- a call that finishes does so at every larger allowance too, alike
+  pub list-larger-alike : Call n t k b rows s → Call n t k b′ rows′ s′ → b ≤ b′ → ¬ Reports s Stopped → Alike n k s s′
+  unfolding list
+  list-larger-alike c d l h =
+      let e : list n t k b′ ≡ list n t k b = larger-budget b b′ (listTree n t k) l (λ q. h (reports c Stopped .1 q)) in
+      let h′ : ¬ Reports s′ Stopped = λ q. h (reports c Stopped .1 (sym (ap (λ (x : Result Choice). x .outcome) e) ∙ reports d Stopped .0 q)) in
+      record {
+        answer = ap (λ (u : ListCall). u .answer) (listed d ∙ ap (λ (x : Result Choice). listedCall n k x rows′) e) ∙ sym (ap (λ (u : ListCall). u .answer) (listed c));
+        rows = list-rows d h′ ∙ sym (list-rows c h);
+      }
+
+-- all finished calls of one filing for k rows are alike
+pub list-finished-alike : {n : ℕ} {t : List ℤ} {k b b′ : ℕ} {rows rows′ : List ℕ} {s s′ : ListCall} → Call n t k b rows s → Call n t k b′ rows′ s′ →
+    ¬ Reports s Stopped → ¬ Reports s′ Stopped → Alike n k s s′
+list-finished-alike {b = b} {b′ = b′} c d h g = elim (decLe b b′) [
+  | yes l ↦ list-larger-alike c d l h
+  | no l ↦ let a = list-larger-alike d c (omega arith) g in record { answer = sym (a .answer); rows = sym (a .rows) }
+]
