@@ -18,7 +18,6 @@ use Rattle.receipt.specs.declared.Outcome.{Outcome}
 use Rattle.receipt.specs.declared.Outcome.the-variants.{LaidOut, NoLayout, Stopped}
 use Rattle.receipt.specs.declared.Refusal.{Refusal}
 use Rattle.receipt.specs.Receipt.{refusal}
-use Rattle.receipt.specs.Answers.{listingReceipt}
 use Rattle.theory.specs.Calls.{over, listedCall, listRefused, listCall}
 use Rattle.theory.specs.Formula.{Choice}
 use Rattle.theory.specs.Listing.{listTree, list, rowBytes, rowsOf}
@@ -29,7 +28,7 @@ use Rattle.list.specs.declared.Ending.{Ending}
 use Rattle.list.specs.declared.Ending.the-variants as ending
 use Rattle.list.specs.declared.Walk.{Walk}
 use Rattle.list.specs.Call.{called}
-use Rattle.list.specs.Walk.{Wrote, EndsIn, Walked, top, endedAs, answerOf}
+use Rattle.list.specs.Walk.{Wrote, EndsIn, Walked, top, kept, keptRows, endedAs, answerOf}
 use Rattle.list.proofs.Rows.{walked-rows}
 
 -- the rows that count -----------------------------------------------------------------------------------------------
@@ -51,10 +50,10 @@ finished-as (a ∷ l) = rw (ne-eqb (suc (length l)) 0 (λ e. omega arith))
 
 module _ (n k b : ℕ) (r : Run Choice) (old mid : List ℕ) (w : Walk) where
   -- no more rows count than were asked for
-  pub written-most : Walked (top n k b) r old mid w → listingReceipt (answerOf w) .place ≤ k
-  written-most h = go (w .ending) (omega (arith, walked-rows (top n k b) r old mid w h))
+  pub kept-most : Walked (top n k b) r old mid w → keptRows w ≤ k
+  kept-most h = go (w .ending) (omega (arith, walked-rows (top n k b) r old mid w h))
     where
-      go : (e : Ending) → w .rows ≤ k → listingReceipt (endedAs e (w .rows) (w .count)) .place ≤ k
+      go : (e : Ending) → w .rows ≤ k → kept e (w .rows) ≤ k
       go ending.All h = h
       go ending.More h = h
       go ending.Stopped h = omega arith
@@ -83,12 +82,11 @@ module _ (n k b : ℕ) (r : Run Choice) (old mid : List ℕ) (w : Walk) where
     found : length (choicesFound (r .found)) ≡ length (r .found)
     found = length-map (r .found) (λ a. a .choice)
 
-    pub walked-call : Walked (top n k b) r old mid w → Clears (listingReceipt (answerOf w) .place) → called (answerOf w) new ≡ listedCall n k (limited b r) old
+    pub walked-call : Walked (top n k b) r old mid w → Clears (keptRows w) → called (answerOf w (keptRows w)) new ≡ listedCall n k (limited b r) old
     unfolding rowBytes
     walked-call h is = go (w .ending) h is
       where
-        go : (e : Ending) → EndsIn e (top n k b) r old mid w → Clears (listingReceipt (endedAs e (w .rows) (w .count)) .place) →
-            called (endedAs e (w .rows) (w .count)) new ≡ listedCall n k (limited b r) old
+        go : (e : Ending) → EndsIn e (top n k b) r old mid w → Clears (kept e (w .rows)) → called (endedAs e (kept e (w .rows)) (w .count)) new ≡ listedCall n k (limited b r) old
         go ending.All h is =
             let few : length (r .found) ≤ k = omega (arith, h .0) in
             let cs : List Choice = choicesFound (r .found) in
@@ -128,7 +126,7 @@ module _ (n : ℕ) (t : List ℤ) (k b : ℕ) (rows : List ℕ) where
 
     module _ (h : k * n ≤ length rows) (mid new : List ℕ) (w : Walk) (walked : Walked (top n k b) (listTree n t k) rows mid w) where
       -- the walk from the initial state, and the zeros after it
-      pub call-walked : (let m = listingReceipt (answerOf w) .place in new ≡ take (m * n) mid ++ (replicate ((k - m) * n) 0 ++ drop (m * n + (k - m) * n) mid)) →
-          called (answerOf w) new ≡ listCall n t k b rows
+      pub call-walked : (m : ℕ) → m ≡ keptRows w → new ≡ take (m * n) mid ++ (replicate ((k - m) * n) 0 ++ drop (m * n + (k - m) * n) mid) →
+          called (answerOf w m) new ≡ listCall n t k b rows
       unfolding list
-      call-walked is = walked-call n k b (listTree n t k) rows mid w new walked is ∙ call-accepted h
+      call-walked m e is = rw e (walked-call n k b (listTree n t k) rows mid w new walked (rw e at is) ∙ call-accepted h)

@@ -7,11 +7,11 @@ use Prim.Native.Nat.{ℕ, suc, _+_, _*_, _-_, _^_, _≤_, _<_, min}
 use native.Mathlib.Decide.{ℕ-discrete, decLe, decLt}
 use native.Mathlib.Nat.{zero-mul}
 use native.Mathlib.Omega.{arith}
-use borrow.Author.Tests.{ltb-true, lt-ltb, le-ltb}
+use borrow.Author.Tests.{lt-ltb, le-ltb}
 use lib.Dec.{ltb}
 use lib.IntN.{ℤ}
 use lib.ListN.{length, getD, take, drop, replicate, length-take, length-map, length-replicate}
-use lib.Seq.{take-at, drop-at, take-take, take-nil}
+use lib.Seq.{take-at, drop-at, take-nil}
 use Rattle.general.specs.Booleans.{bit, cond-ind, true-not-false}
 use Rattle.general.specs.Lists.{mem-getD, mem-index}
 use Rattle.receipt.specs.declared.Checked.{Checked}
@@ -31,11 +31,13 @@ use Rattle.theory.specs.Layouts.{layouts}
 use Rattle.theory.specs.Listing.{listTree, listNeeds, list, rowBytes, rowsOf}
 use Rattle.theory.specs.Order.{_≼_, _≺_, Least}
 use Rattle.theory.specs.Table.{check, Accepted, WithinLimits}
-use Rattle.theory.specs.Tree.{Found, choicesFound, Result, finished, finish, stop}
+use Rattle.theory.specs.Tree.{Found, choicesFound, Result, finished, stop}
 use Rattle.theory.specs.Unknown.{UnknownInTable, Names}
 use Rattle.theory.proofs.Ascending.{ascends-at}
-use Rattle.theory.proofs.Budget.{stopped-iff, count-min, limited-finished, limited-short, larger-budget}
+use Rattle.theory.proofs.Budget.{stopped-iff, count-min, limited-short, larger-budget}
 use Rattle.theory.proofs.Layouts.{layouts-exactly, layouts-ascend, layouts-most}
+use Rattle.theory.proofs.Listed.{list-finished, list-length}
+use Rattle.theory.proofs.Listed as theory
 use Rattle.theory.proofs.Listing.{list-layouts}
 use Rattle.theory.proofs.ListingBound.{list-under, list-bound, list-bound-all}
 use Rattle.theory.proofs.Order.{≼-antisym}
@@ -182,23 +184,17 @@ module _ {n : ℕ} {t : List ℤ} {k b : ℕ} {rows : List ℕ} {s : ListCall} (
   -- finished -----------------------------------------------------------------------------------------------------------
 
   module _ (ends : ¬ Reports s Stopped) where
-    finished-is : r ≡ finish (listTree n t k)
-    unfolding list
-    finished-is = limited-finished b (listTree n t k) (λ e. ends (reports Stopped .1 e))
-
-    found-is : choicesFound (r .found) ≡ take (suc k) all
-    found-is = ap (λ (x : Result Choice). choicesFound (x .found)) finished-is ∙ list-layouts n t accepted k
+    going : ¬ (r .outcome ≡ Stopped)
+    going e = ends (reports Stopped .1 e)
 
     found-length : length (r .found) ≡ min (suc k) (length all)
-    found-length = sym (length-map (r .found) (λ a. a .choice)) ∙ ap length found-is ∙ length-take (suc k) all
+    found-length = list-length n t accepted k b going
 
     long : (d : Choice) → List·Memᴰ d all → length d ≡ n
     long d m = layouts-exactly n (clauses t) d .0 m .long
 
     rows-as : rowsOf n k (choicesFound (r .found)) ≡ rowsOf n k all
-    rows-as =
-        let e : k - length (take (suc k) all) ≡ k - length all = omega (arith, length-take (suc k) all) in
-        rw (found-is, take-take k (suc k) all (omega arith), e)
+    rows-as = theory.list-rows n t accepted k b going
 
     -- "The rows are all layouts in document 01's order, each once, up to k"; "Unused rows become 0."
     pub list-rows : take (k * n) (s .rows) ≡ rowsOf n k all
@@ -206,14 +202,11 @@ module _ {n : ℕ} {t : List ℤ} {k b : ℕ} {rows : List ℕ} {s : ListCall} (
 
     -- "the number of rows is the smaller of k and the number of layouts"
     pub list-place : placeOf s ≡ min k (length all)
-    list-place = omega (arith, place-is, found-length)
+    list-place = ap placeOf (listed c) ∙ theory.list-place n t accepted k b going
 
     -- ""more" exactly when there are more than k"
     pub list-more-exactly : More s ↔ (k < length all)
-    list-more-exactly = (
-      λ m. omega (arith, found-length, ltb-true k (length (r .found)) (sym more-is ∙ m)),
-      λ h. more-is ∙ lt-ltb k (length (r .found)) (omega (arith, found-length)),
-    )
+    list-more-exactly = let w = theory.list-more n t accepted k b going in (λ m. w .0 (sym more-is ∙ m), λ h. more-is ∙ w .1 h)
 
     row-bytes : (i : ℕ) → i < placeOf s → (d : Choice) → RowIs n s i (getD all i d)
     row-bytes i h d = ap (λ (l : List ℕ). take n (drop (i * n) l)) (rows-are ∙ ap (λ (l : List ℕ). over (k * n) l rows) rows-as) ∙
@@ -239,7 +232,7 @@ module _ {n : ℕ} {t : List ℤ} {k b : ℕ} {rows : List ℕ} {s : ListCall} (
     list-unused-zero = rw (list-rows, list-place) (rows-zero n k all long)
 
     outcome-is : r .outcome ≡ finished (r .found)
-    outcome-is = ap (λ (x : Result Choice). x .outcome) finished-is ∙ sym (ap (λ (x : Result Choice). finished (x .found)) finished-is)
+    outcome-is = let f = list-finished n t accepted k b going in ap (λ (x : Result Choice). x .outcome) f ∙ sym (ap (λ (x : Result Choice). finished (x .found)) f)
 
     some-found : (d : Choice) → Solution n (clauses t) d → 0 < length (r .found)
     some-found d h = let w = mem-index all d [] (layouts-exactly n (clauses t) d .1 h) in omega (arith, found-length, w .1)
@@ -327,7 +320,7 @@ module _ {n : ℕ} {t : List ℤ} {k b : ℕ} {rows : List ℕ} {s : ListCall} (
   -- where all layouts are rows, in terms of their number
   pub list-count-all : ¬ Reports s Stopped → ¬ More s → 8 * countOf s ≤ 2 ^ n + 7 * placeOf s - 8
   list-count-all ends none =
-      let f : length (r .found) ≡ length (listTree n t k .found) = ap (λ (x : Result Choice). length (x .found)) (finished-is ends) in
+      let f : length (r .found) ≡ length (listTree n t k .found) = ap (λ (x : Result Choice). length (x .found)) (list-finished n t accepted k b (going ends)) in
       let few : length (r .found) ≤ k = elim (decLe (length (r .found)) k) [ yes h ↦ h | no h ↦ absurd (none (more-is ∙ lt-ltb k (length (r .found)) (omega arith))) ] in
       omega (arith, list-count-smaller, list-bound-all n t accepted k (omega arith), place-is)
 
@@ -352,9 +345,9 @@ module _ {n : ℕ} {t : List ℤ} {k b : ℕ} {rows : List ℕ} {s : ListCall} (
   -- "The first row, where there is one, equals the plan of a plain search that isn't stopped."
   pub list-first-row : {b′ : ℕ} {plan : List ℕ} {trail : List ℤ} {u : SearchCall} → 0 < placeOf s → search.Call n t b′ plan trail u → ¬ search.Reports u Stopped →
       take n (s .rows) ≡ take n (u .plan)
-  list-first-row {u = u} h v going =
+  list-first-row h v unstopped =
       let row = list-row-layout 0 h in
-      let w = first-layout v (layout-when-some v going (row .0) (row .1)) in
+      let w = first-layout v (layout-when-some v unstopped (row .0) (row .1)) in
       let front : 0 * n ≡ 0 = zero-mul n in
       rw front at (row .2) ∙ ap (map bit) (≼-antisym (row .0) (w .0) (first-before h (w .0) (w .1)) (w .1 .least (row .0) (row .1))) ∙ sym (w .2)
 

@@ -134,11 +134,20 @@ pub record Listable (n : ℕ) (t : List ℤ) (k : ℕ) (bytes : List ℕ) : Type
 abbrev pub top : ℕ → ℕ → ℕ → Level
 top n k left = record { variables = n; from = 1; left = left; rows = k; row = 0 }
 
--- what is answered to a walk that wrote so many rows and made so many splits
+-- the rows that count of those that were written, by how the walk ends
+abbrev pub kept : Ending → ℕ → ℕ
+kept ending.All rows = rows
+kept ending.More rows = rows
+kept ending.Stopped rows = 0
+
+abbrev pub keptRows : Walk → ℕ
+keptRows w = kept (w .ending) (w .rows)
+
+-- what is answered where so many rows count and so many splits were made
 abbrev pub endedAs : Ending → ℕ → ℕ → Listing
 endedAs ending.All rows count = Ended (cond (eqb rows 0) NoLayout LaidOut) rows false count
 endedAs ending.More rows count = Ended LaidOut rows true count
-endedAs ending.Stopped rows count = Ended Stopped 0 false count
+endedAs ending.Stopped rows count = Ended Stopped rows false count
 
-abbrev pub answerOf : Walk → Listing
-answerOf w = endedAs (w .ending) (w .rows) (w .count)
+abbrev pub answerOf : Walk → ℕ → Listing
+answerOf w rows = endedAs (w .ending) rows (w .count)

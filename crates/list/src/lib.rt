@@ -12,7 +12,7 @@ ghost use Rattle.occurrences.specs.Index.{formulaOf};
 ghost use Rattle.tally.specs.Tally.{stateIn};
 ghost use Rattle.notes.specs.Notes.{Whole};
 ghost use Rattle.side.specs.Branch.{branchOf};
-ghost use Rattle.list.specs.Walk.{Openable, Rowable, Walkable, Splittable, Listable, under, leafRun, runFrom, splitRun, counted, Walked, top, answerOf};
+ghost use Rattle.list.specs.Walk.{Openable, Rowable, Walkable, Splittable, Listable, under, leafRun, runFrom, splitRun, counted, Walked, top, keptRows, answerOf};
 ghost use Rattle.list.specs.Call.{called};
 use literal::Literal;
 use literal::Variable;
@@ -217,12 +217,23 @@ fn is_short(room: usize, n: usize, k: usize) -> bool
     n != 0 && room / n < k
 }
 
-// What a walk answers: on a stop its rows do not count.
-fn answer_of(walk: Walk) -> Listing
-    ensures { λ r. ⌜ r ≡ answerOf walk ⌝ }
+// The rows that count: on a stop none does.
+fn kept_rows(walk: Walk) -> usize
+    ensures { λ r. ⌜ r ≡ keptRows walk ⌝ }
 {
     let ending = walk.ending;
-    let rows = walk.rows;
+    match ending {
+        Ending::All => walk.rows,
+        Ending::More => walk.rows,
+        Ending::Stopped => 0,
+    }
+}
+
+// What a walk answers, with the rows that count.
+fn answer_of(walk: Walk, rows: usize) -> Listing
+    ensures { λ r. ⌜ r ≡ answerOf walk rows ⌝ }
+{
+    let ending = walk.ending;
     let count = walk.count;
     match ending {
         Ending::All => Listing::Ended {
@@ -243,7 +254,7 @@ fn answer_of(walk: Walk) -> Listing
         },
         Ending::Stopped => Listing::Ended {
             outcome: Outcome::Stopped,
-            rows: 0,
+            rows,
             more: false,
             count,
         },
@@ -261,8 +272,7 @@ pub fn list(table: &[i16], n: usize, k: usize, allowance: u32, rows: &mut [u8]) 
         return Listing::Refused(Refusal::new(Fault::RowsShort, 0));
     }
     let walk = walk_table(table, n, k, allowance, rows);
-    let answer = answer_of(walk);
-    let written = answer.receipt().place;
+    let written = kept_rows(walk);
     fill::clear_bytes(rows, written * n, (k - written) * n);
-    answer
+    answer_of(walk, written)
 }

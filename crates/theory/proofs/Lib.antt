@@ -31,6 +31,7 @@ pub mod Splits
 pub mod Picking
 pub mod FewOpen
 pub mod Listing
+pub mod Listed
 pub mod ListingBound
 pub mod Rows
 pub mod Forgetting

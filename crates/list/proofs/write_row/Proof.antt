@@ -24,6 +24,6 @@ write-row-spec =
     (tie.spec
     (λ c. let s = c .before .before .before in leaf-more (s .pre) (stateIn (now (s .args .state))) (c .if1 .taken))
     (λ c. let s = c .before .before .before .before .before in omega (arith, inside c (s .args .level .rows * s .args .level .variables) (omega arith), s .pre .word))
-    (λ c κs. let s = c .before .before .before .before .before in (inside c _ (s .pre .fits), s .pre .small))
+    (λ c κs. let s = c .before .before .before .before .before in (omega (arith, inside c _ (s .pre .fits)), omega (arith, s .pre .small)))
     (λ c. search needs)
     (λ c. let s = c .before .before .before .before .before .before .before .before in leaf-row (s .pre) (stateIn (now (s .args .state))) (c .before .before .before .before .before .if1 .left) _ (c .before .before .write-choice .ensures)))
