@@ -318,6 +318,23 @@ def released(classes, size):
     return name.filing(groups + ties + [[x, y, c], [-x, -y, d]])
 
 
+def below_free(count, filing):
+    """A filing's placements after some that stand in no group: each of these doubles List's tree."""
+    n, groups = filing
+    return n + count, [[e + count if e > 0 else e - count for e in g] for g in groups]
+
+
+def late_ties(ties, others):
+    """A switch that no layout takes, left out, makes rule 8 fit pair after pair in one class, each found after all pairs of the groups before, and the last a dead end."""
+    name = Namer()
+    switch, r, opposite, *dead = (name(letter) for letter in "srodef")
+    groups = [[switch, r, opposite], [switch] + dead, dead]
+    groups += [[r] + [name("other", i) for i in range(3)]] * others
+    groups += [[opposite, -name("q", i), name("second", i)] for i in range(ties)]
+    groups += [[r, name("q", i), name("first", i)] for i in range(ties)]
+    return name.filing(groups + [[name("q", ties - 1), r] + dead])
+
+
 def one_long_group(size):
     """A split for every placement but two: the deepest tree there is."""
     return size, [list(range(1, size + 1))]
@@ -358,6 +375,20 @@ SETTLED = {
 }
 
 
+# Measured for List only, with placements that stand in no group
+LISTED = {
+    "free256": lambda: (256, []),
+    "none256": lambda: (256, [[]]),
+    "domino4x8": lambda: dominoes(4, 8, set()),
+    "pigeon6": lambda: pigeons(6, 7),
+    "queens9": lambda: queens(9),
+    "x6pos180": ALL["x6pos180"],
+    "limits": ALL["limits"],
+    "core16": lambda: below_free(16, (4, [[1, 2, 3], [1, 2, 4], [1, 3, 4], [2, 3, 4]])),
+    "lateties": lambda: below_free(2, late_ties(80, 348)),
+}
+
+
 def growth():
     """By placements; by groups, with one tree at different lengths; by entries."""
     series = {}
@@ -370,11 +401,14 @@ def growth():
     return series
 
 
+def check_limits(name, n, groups):
+    assert n <= MOST_PLACEMENTS and len(groups) <= MOST_GROUPS and sum(map(len, groups)) <= MOST_ENTRIES, name + ": over the limits"
+
+
 def check(name, n, groups):
-    entries = [e for g in groups for e in g]
-    named = {abs(e) for e in entries}
+    named = {abs(e) for g in groups for e in g}
     assert named == set(range(1, n + 1)), name + ": a placement stands in no group"
-    assert n <= MOST_PLACEMENTS and len(groups) <= MOST_GROUPS and len(entries) <= MOST_ENTRIES, name + ": over the limits"
+    check_limits(name, n, groups)
 
 
 def write(folder, filings):

@@ -8,6 +8,7 @@
 #     bench/run.sh --compare [WORD...]      only compares, WORDs as bench/compare.cpp says
 #     bench/run.sh --keystroke              what one element more costs beside a whole check of a table at the limits, in one line; it builds only what this needs
 #     bench/run.sh --settle                 what one Settle costs on each filing of bench/filings.py, and on which the most; it builds only what this needs
+#     bench/run.sh --list                   compares List on random filings, and what it costs on those of bench/filings.py for it; it builds only what this needs
 #
 # OPTIONs (bench/table.py): --allowance N, --seconds S for the library on one filing, --limit S for a whole run, --reference PROGRAM (or REFERENCE in the environment).
 set -eu
@@ -25,11 +26,13 @@ proved() { # words for rt
     rt "$@" >target/bench/build.log 2>&1 || { cat target/bench/build.log; exit 1; }
 }
 
+flags=(-std=c++17 -O3 -march=native -Wall -Wextra -Wno-psabi -Iinclude -Ibench)
+
 build() {
     need g++ g++
     proved check layout
     proved staticlib window
-    local flags=(-std=c++17 -O3 -march=native -Wall -Wextra -Wno-psabi -Iinclude -Ibench) program
+    local program
     g++ "${flags[@]}" bench/own.cpp -o target/bench/own
     for program in measure compare; do
         g++ "${flags[@]}" "bench/$program.cpp" target/staticlib/libwindow.a -o "target/bench/$program"
@@ -46,9 +49,16 @@ settle() {
     python3 bench/settle.py
 }
 
+list() {
+    need g++ g++
+    proved check listings
+    g++ "${flags[@]}" bench/lister.cpp -o target/bench/lister
+    python3 bench/list.py
+}
+
 mode=table
 case ${1-} in
---growth | --stack | --compare | --keystroke | --settle)
+--growth | --stack | --compare | --keystroke | --settle | --list)
     mode=${1#--}
     shift
     ;;
@@ -56,7 +66,7 @@ esac
 mkdir -p target/bench
 need python3 python3
 case $mode in
-keystroke | settle) ;;
+keystroke | settle | list) ;;
 *) build ;;
 esac
 
@@ -87,6 +97,7 @@ compare) target/bench/compare --most-splits "${MOST_SPLITS:-2000}" "${words[@]}"
 stack) bench/stack.sh ;;
 keystroke) keystroke ;;
 settle) settle ;;
+list) list ;;
 growth)
     python3 bench/filings.py --growth target/bench/growth >target/bench/made
     mapfile -t made <target/bench/made

@@ -21,6 +21,12 @@ pub false-unless : (b : Bool) → ¬ (b ≡ true) → b ≡ false
 false-unless true h = absurd (h refl)
 false-unless false h = refl
 
+pub bit-same : (x y : Bool) → bit x ≡ bit y → x ≡ y
+bit-same true true e = refl
+bit-same true false e = absurd (omega arith)
+bit-same false true e = absurd (omega arith)
+bit-same false false e = refl
+
 pub bit-not : (b : Bool) → bit b + bit (not b) ≡ 1
 bit-not true = refl
 bit-not false = refl

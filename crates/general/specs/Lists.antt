@@ -1,6 +1,6 @@
 -- Lists made from a function of the index, the lists that `map` makes, and lists made of parts.
 use mathlib.Core.Path.{_≡_, refl, ap, sym, _∙_}
-use mathlib.Core.Logic.{⊎-elim}
+use mathlib.Core.Logic.{_⊎_, inl, inr, ⊎-elim}
 use mathlib.Core.List.{List, [], _∷_, _++_, map, append-assoc, List·Memᴰ, List·Memᴰ·head, List·Memᴰ·tail, List·Memᴰ·not-nil, List·Memᴰ·cases-cons}
 use Prim.Native.Nat.{ℕ, zero, suc, _+_, _-_, _≤_, _<_}
 use native.Mathlib.Decide.{ℕ-discrete as decEq}
@@ -95,6 +95,17 @@ module _ {A : Type 0} where
   pub before-right : {x y : A} {l : List A} → Before x y l → List·Memᴰ y l
   before-right (here m) = List·Memᴰ·tail m
   before-right (later b) = List·Memᴰ·tail (before-right b)
+
+-- two members of a list are one, or one of them stands before the other
+pub members-ordered : {A : Type 0} (l : List A) {x y : A} → List·Memᴰ x l → List·Memᴰ y l → (x ≡ y) ⊎ (Before x y l ⊎ Before y x l)
+members-ordered [] m k = absurd (List·Memᴰ·not-nil m)
+members-ordered (z ∷ l) {x} {y} m k = ⊎-elim
+    (λ (e : x ≡ z). ⊎-elim (λ (d : y ≡ z). inl (e ∙ sym d)) (λ j. rw e (inr (inl (here j)))) (List·Memᴰ·cases-cons k))
+    (λ i. ⊎-elim
+    (λ (d : y ≡ z). rw d (inr (inr (here i))))
+    (λ j. ⊎-elim inl (λ o. inr (⊎-elim (λ b. inl (later b)) (λ b. inr (later b)) o)) (members-ordered l i j))
+    (List·Memᴰ·cases-cons k))
+    (List·Memᴰ·cases-cons m)
 
 -- in a list made from a function of the index, by the indices
 module _ {A : Type 0} (g : ℕ → A) where

@@ -8,7 +8,7 @@ use native.Mathlib.Omega.{arith}
 use borrow.Author.Tests.{lt-ltb, le-ltb, ne-eqb}
 use lib.Dec.{eqb, ltb}
 use lib.IntN.{ℤ}
-use lib.ListN.{length, take, drop, replicate, length-map}
+use lib.ListN.{length, take, drop, replicate}
 use lib.Seq.{take-all, take-nil}
 use Rattle.general.specs.Appending.{take-next, appended-past}
 use Rattle.receipt.specs.declared.Checked.the-variants.{Refused}
@@ -24,6 +24,7 @@ use Rattle.theory.specs.Listing.{listTree, list, rowBytes, rowsOf}
 use Rattle.theory.specs.Table.{check, Accepted}
 use Rattle.theory.specs.Tree.{Found, Run, choicesFound, Result, finished, finish, stop, limited}
 use Rattle.theory.proofs.Budget.{limited-enough, limited-short}
+use Rattle.theory.proofs.Tree.{choices-length}
 use Rattle.list.specs.declared.Ending.{Ending}
 use Rattle.list.specs.declared.Ending.the-variants as ending
 use Rattle.list.specs.declared.Walk.{Walk}
@@ -80,9 +81,9 @@ module _ (n k b : ℕ) (r : Run Choice) (old mid : List ℕ) (w : Walk) where
     rows-as m e q = rw (e, q)
 
     found : length (choicesFound (r .found)) ≡ length (r .found)
-    found = length-map (r .found) (λ a. a .choice)
+    found = choices-length (r .found)
 
-    pub walked-call : Walked (top n k b) r old mid w → Clears (keptRows w) → called (answerOf w (keptRows w)) new ≡ listedCall n k (limited b r) old
+    walked-call : Walked (top n k b) r old mid w → Clears (keptRows w) → called (answerOf w (keptRows w)) new ≡ listedCall n k (limited b r) old
     unfolding rowBytes
     walked-call h is = go (w .ending) h is
       where

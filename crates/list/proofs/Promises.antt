@@ -4,13 +4,13 @@ use mathlib.Core.Path.{_≡_, refl, ap, sym, _∙_}
 use mathlib.Core.Logic.{_⊎_, inl, inr, ⊎-elim, _↔_}
 use mathlib.Core.List.{List, [], _∷_, map, List·Memᴰ}
 use Prim.Native.Nat.{ℕ, suc, _+_, _*_, _-_, _^_, _≤_, _<_, min}
-use native.Mathlib.Decide.{ℕ-discrete, decLe, decLt}
+use native.Mathlib.Decide.{decLe, decLt}
 use native.Mathlib.Nat.{zero-mul}
 use native.Mathlib.Omega.{arith}
 use borrow.Author.Tests.{lt-ltb, le-ltb}
 use lib.Dec.{ltb}
 use lib.IntN.{ℤ}
-use lib.ListN.{length, getD, take, drop, replicate, length-take, length-map, length-replicate}
+use lib.ListN.{length, getD, take, drop, replicate, length-take, length-replicate}
 use lib.Seq.{take-at, drop-at, take-nil}
 use Rattle.general.specs.Booleans.{bit, cond-ind, true-not-false}
 use Rattle.general.specs.Lists.{mem-getD, mem-index}
@@ -29,20 +29,21 @@ use Rattle.theory.specs.Calls.{over, SearchCall, ListCall, listedCall, listRefu
 use Rattle.theory.specs.Formula.{Choice, clauses, Solution}
 use Rattle.theory.specs.Layouts.{layouts}
 use Rattle.theory.specs.Listing.{listTree, listNeeds, list, rowBytes, rowsOf}
-use Rattle.theory.specs.Order.{_≼_, _≺_, Least}
+use Rattle.theory.specs.Order.{_≺_}
 use Rattle.theory.specs.Table.{check, Accepted, WithinLimits}
 use Rattle.theory.specs.Tree.{Found, choicesFound, Result, finished, stop}
 use Rattle.theory.specs.Unknown.{UnknownInTable, Names}
 use Rattle.theory.proofs.Ascending.{ascends-at}
 use Rattle.theory.proofs.Budget.{stopped-iff, count-min, limited-short, larger-budget}
-use Rattle.theory.proofs.Layouts.{layouts-exactly, layouts-ascend, layouts-most}
-use Rattle.theory.proofs.Listed.{list-finished, list-length}
+use Rattle.theory.proofs.Layouts.{layouts-exactly, layouts-ascend, layouts-most, layouts-first}
+use Rattle.theory.proofs.Listed.{listed-finished, listed-length}
 use Rattle.theory.proofs.Listed as theory
 use Rattle.theory.proofs.Listing.{list-layouts}
 use Rattle.theory.proofs.ListingBound.{list-under, list-bound, list-bound-all}
 use Rattle.theory.proofs.Order.{≼-antisym}
 use Rattle.theory.proofs.Rows.{rows-whole, rows-row, rows-zero, bits-same}
 use Rattle.theory.proofs.Tables.{accepted-sizes, accepted-exactly}
+use Rattle.theory.proofs.Tree.{choices-length}
 use Rattle.theory.proofs.Unknown.{none-named, check-names}
 use Rattle.search.specs.Call as search
 use Rattle.search.proofs.Promises.{first-layout, layout-when-some}
@@ -169,7 +170,7 @@ module _ {n : ℕ} {t : List ℤ} {k b : ℕ} {rows : List ℕ} {s : ListCall} (
       let none-taken : k - 0 ≡ k = omega arith in
       ap (λ (x : Result Choice). rowsOf n k (choicesFound (x .found))) (stopped-is e) ∙ rw (take-nil k, none-taken)
 
-  -- "Stopped: place 0, the first k times n bytes 0, no "more", the count is the allowance"
+  -- "Stopped: place 0, the first k times n bytes 0, no "more""; the count is the allowance
   pub list-stop : Reports s Stopped → (placeOf s ≡ 0) × (take (k * n) (s .rows) ≡ replicate (k * n) 0) × ¬ More s × (countOf s ≡ b)
   list-stop e =
       let q = stopped-is e in
@@ -188,31 +189,31 @@ module _ {n : ℕ} {t : List ℤ} {k b : ℕ} {rows : List ℕ} {s : ListCall} (
     going e = ends (reports Stopped .1 e)
 
     found-length : length (r .found) ≡ min (suc k) (length all)
-    found-length = list-length n t accepted k b going
+    found-length = listed-length n t accepted k b going
 
     long : (d : Choice) → List·Memᴰ d all → length d ≡ n
     long d m = layouts-exactly n (clauses t) d .0 m .long
 
     rows-as : rowsOf n k (choicesFound (r .found)) ≡ rowsOf n k all
-    rows-as = theory.list-rows n t accepted k b going
+    rows-as = theory.listed-rows n t accepted k b going
 
     -- "The rows are all layouts in document 01's order, each once, up to k"; "Unused rows become 0."
     pub list-rows : take (k * n) (s .rows) ≡ rowsOf n k all
     list-rows = ap (take (k * n)) rows-are ∙ rw rows-as (take-at (rowsOf n k all) (drop (k * n) rows) (k * n) (rows-whole n k all long))
 
-    -- "the number of rows is the smaller of k and the number of layouts"
+    -- the number of rows is the smaller of k and the number of layouts
     pub list-place : placeOf s ≡ min k (length all)
-    list-place = ap placeOf (listed c) ∙ theory.list-place n t accepted k b going
+    list-place = ap placeOf (listed c) ∙ theory.listed-place n t accepted k b going
 
-    -- ""more" exactly when there are more than k"
+    -- "more" exactly when there are more than k
     pub list-more-exactly : More s ↔ (k < length all)
-    list-more-exactly = let w = theory.list-more n t accepted k b going in (λ m. w .0 (sym more-is ∙ m), λ h. more-is ∙ w .1 h)
+    list-more-exactly = let w = theory.listed-more n t accepted k b going in (λ m. w .0 (sym more-is ∙ m), λ h. more-is ∙ w .1 h)
 
     row-bytes : (i : ℕ) → i < placeOf s → (d : Choice) → RowIs n s i (getD all i d)
     row-bytes i h d = ap (λ (l : List ℕ). take n (drop (i * n) l)) (rows-are ∙ ap (λ (l : List ℕ). over (k * n) l rows) rows-as) ∙
         rows-row n k all long (drop (k * n) rows) i (omega (arith, list-place)) d
 
-    -- "every layout is a row, or "more" is said and it comes after the rows"
+    -- every layout is a row, or "more" is said and it comes after the rows
     pub list-layout-row : (d : Choice) → Solution n (clauses t) d → ((i : ℕ) × (i < placeOf s) × RowIs n s i d) ⊎ (More s × ((i : ℕ) (e : Choice) → i < placeOf s → RowIs n s i e → e ≺ d))
     list-layout-row d h =
         let w = mem-index all d [] (layouts-exactly n (clauses t) d .1 h) in
@@ -232,7 +233,7 @@ module _ {n : ℕ} {t : List ℤ} {k b : ℕ} {rows : List ℕ} {s : ListCall} (
     list-unused-zero = rw (list-rows, list-place) (rows-zero n k all long)
 
     outcome-is : r .outcome ≡ finished (r .found)
-    outcome-is = let f = list-finished n t accepted k b going in ap (λ (x : Result Choice). x .outcome) f ∙ sym (ap (λ (x : Result Choice). finished (x .found)) f)
+    outcome-is = let f = listed-finished n t accepted k b going in ap (λ (x : Result Choice). x .outcome) f ∙ sym (ap (λ (x : Result Choice). finished (x .found)) f)
 
     some-found : (d : Choice) → Solution n (clauses t) d → 0 < length (r .found)
     some-found d h = let w = mem-index all d [] (layouts-exactly n (clauses t) d .1 h) in omega (arith, found-length, w .1)
@@ -266,19 +267,19 @@ module _ {n : ℕ} {t : List ℤ} {k b : ℕ} {rows : List ℕ} {s : ListCall} (
   row-choice : (i : ℕ) → i < placeOf s → (d : Choice) → RowIs n s i d → d ≡ getD all i []
   row-choice i h d q = bits-same d (getD all i []) (sym q ∙ row-bytes (row-finishes i h) i h [])
 
-  -- "every row is a layout"
+  -- every row is a layout
   pub list-row-layout : (i : ℕ) → i < placeOf s → (d : Choice) × Solution n (clauses t) d × RowIs n s i d
   list-row-layout i h =
       let ends = row-finishes i h in
       (getD all i [], layouts-exactly n (clauses t) (getD all i []) .0 (mem-getD all i [] (omega (arith, list-place ends))), row-bytes ends i h [])
 
-  -- "they strictly ascend"
+  -- they strictly ascend
   pub list-rows-ascend : (i j : ℕ) → i < j → j < placeOf s → (d e : Choice) → RowIs n s i d → RowIs n s j e → d ≺ e
   list-rows-ascend i j h l d e p q =
       let place = list-place (row-finishes j l) in
       rw (row-choice i (omega arith) d p, row-choice j l e q) (ascends-at _≺_ all (layouts-ascend n (clauses t)) i j h (omega arith) [])
 
-  -- "elements past k times n stay"
+  -- elements past k times n stay
   pub list-rest-kept : drop (k * n) (s .rows) ≡ drop (k * n) rows
   list-rest-kept = ap (drop (k * n)) rows-are ∙ drop-at (rowsOf n k (choicesFound (r .found))) (drop (k * n) rows) (k * n) whole
     where
@@ -288,25 +289,19 @@ module _ {n : ℕ} {t : List ℤ} {k b : ℕ} {rows : List ℕ} {s : ListCall} (
         | no h ↦ let ends : ¬ Reports s Stopped = λ e. h (list-stops-exactly .0 e) in ap length (rows-as ends) ∙ rows-whole n k all (long ends)
       ]
 
-  -- "For n = 0 there is one layout or none."
-  pub list-of-none : n ≡ 0 → ¬ Reports s Stopped → (placeOf s ≤ 1) × (0 < k → ¬ More s)
-  list-of-none e ends =
-      let one : 2 ^ n ≡ 1 = ap (λ (m : ℕ). 2 ^ m) e in
-      (omega (arith, list-place ends, layouts-most n (clauses t)), λ h m. omega (arith, list-more-exactly ends .0 m, layouts-most n (clauses t)))
-
   -- how many splits ------------------------------------------------------------------------------------------------
 
   -- the tree never needs as many splits as there are choices
   pub list-count-under : countOf s < 2 ^ n
   list-count-under = omega (arith, list-count-smaller, list-under n t accepted k)
 
-  -- "a bound on the count in terms of n and k"
   needs-bound : 8 * listNeeds n t k ≤ 2 ^ n + 7 * k + 16
   needs-bound =
       let found : length (listTree n t k .found) ≡ min (suc k) (length all) =
-      sym (length-map (listTree n t k .found) (λ a. a .choice)) ∙ ap length (list-layouts n t accepted k) ∙ length-take (suc k) all in
+      sym (choices-length (listTree n t k .found)) ∙ ap length (list-layouts n t accepted k) ∙ length-take (suc k) all in
       omega (arith, list-bound n t accepted k)
 
+  -- nor more than this, in terms of n and k
   pub list-count-bound : 8 * countOf s ≤ 2 ^ n + 7 * k + 16
   list-count-bound = omega (arith, list-count-smaller, needs-bound)
 
@@ -317,39 +312,35 @@ module _ {n : ℕ} {t : List ℤ} {k b : ℕ} {rows : List ℕ} {s : ListCall} (
       (λ l. omega (arith, list-stops-exactly .0 e, needs-bound))
       h
 
+  -- "For n = 0 there is one layout or none.": the call never stops, and makes no split
+  pub list-no-placements : n ≡ 0 → ¬ Reports s Stopped × (countOf s ≡ 0) × (placeOf s ≤ 1) × (0 < k → ¬ More s)
+  list-no-placements e =
+      let one : 2 ^ n ≡ 1 = ap (λ (m : ℕ). 2 ^ m) e in
+      let ends : ¬ Reports s Stopped = list-bound-finishes (inl (omega arith)) in (
+        ends,
+        omega (arith, list-count-under),
+        omega (arith, list-place ends, layouts-most n (clauses t)),
+        λ h m. omega (arith, list-more-exactly ends .0 m, layouts-most n (clauses t)),
+      )
+
   -- where all layouts are rows, in terms of their number
   pub list-count-all : ¬ Reports s Stopped → ¬ More s → 8 * countOf s ≤ 2 ^ n + 7 * placeOf s - 8
   list-count-all ends none =
-      let f : length (r .found) ≡ length (listTree n t k .found) = ap (λ (x : Result Choice). length (x .found)) (list-finished n t accepted k b (going ends)) in
+      let f : length (r .found) ≡ length (listTree n t k .found) = ap (λ (x : Result Choice). length (x .found)) (listed-finished n t accepted k b (going ends)) in
       let few : length (r .found) ≤ k = elim (decLe (length (r .found)) k) [ yes h ↦ h | no h ↦ absurd (none (more-is ∙ lt-ltb k (length (r .found)) (omega arith))) ] in
       omega (arith, list-count-smaller, list-bound-all n t accepted k (omega arith), place-is)
-
-  -- the first row comes before the first layout, if it is not that
-  first-before : (h : 0 < placeOf s) (d : Choice) → Least _≼_ (Solution n (clauses t)) d → list-row-layout 0 h .0 ≼ d
-  first-before h d w = ⊎-elim at-row (λ x. x .1 0 first h (row .2) .0) (list-layout-row (row-finishes 0 h) d (w .member))
-    where
-      row : (e : Choice) × Solution n (clauses t) e × RowIs n s 0 e
-      row = list-row-layout 0 h
-
-      first : Choice
-      first = row .0
-
-      at-row : ((i : ℕ) × (i < placeOf s) × RowIs n s i d) → first ≼ d
-      at-row x = elim (ℕ-discrete (x .0) 0) [
-        | yes z ↦
-            let same : first ≡ d = row-choice 0 h first (row .2) ∙ sym (row-choice 0 h d (rw z at (x .2))) in
-            rw same (w .least d (w .member))
-        | no z ↦ list-rows-ascend 0 (x .0) (omega arith) (x .1) first d (row .2) (x .2) .0
-      ]
 
   -- "The first row, where there is one, equals the plan of a plain search that isn't stopped."
   pub list-first-row : {b′ : ℕ} {plan : List ℕ} {trail : List ℤ} {u : SearchCall} → 0 < placeOf s → search.Call n t b′ plan trail u → ¬ search.Reports u Stopped →
       take n (s .rows) ≡ take n (u .plan)
   list-first-row h v unstopped =
-      let row = list-row-layout 0 h in
-      let w = first-layout v (layout-when-some v unstopped (row .0) (row .1)) in
+      let ends = row-finishes 0 h in
+      let one = layouts-first n (clauses t) [] (omega (arith, list-place ends)) in
+      let w = first-layout v (layout-when-some v unstopped (getD all 0 []) (one .member)) in
       let front : 0 * n ≡ 0 = zero-mul n in
-      rw front at (row .2) ∙ ap (map bit) (≼-antisym (row .0) (w .0) (first-before h (w .0) (w .1)) (w .1 .least (row .0) (row .1))) ∙ sym (w .2)
+      rw front at (row-bytes ends 0 h []) ∙
+      ap (map bit) (≼-antisym (getD all 0 []) (w .0) (one .least (w .0) (w .1 .member)) (w .1 .least (getD all 0 []) (one .member))) ∙
+      sym (w .2)
 
 -- demand 3: "Whatever the allowance, and whatever" the rows held before ------------------------------------------------
 

@@ -12,10 +12,10 @@ use Rattle.theory.specs.Formula.{Choice}
 use Rattle.theory.specs.Listing.{rowBytes}
 use Rattle.theory.specs.Search.{choiceOf}
 use Rattle.theory.specs.State.{State}
-use Rattle.theory.specs.Tree.{branch, Found, Run, run, split, choicesFound, visit}
+use Rattle.theory.specs.Tree.{branch, Run, run, split, choicesFound, visit}
 use Rattle.theory.proofs.Leaves.{choice-long}
 use Rattle.theory.proofs.Rows.{rows-append}
-use Rattle.theory.proofs.Tree.{choices-split}
+use Rattle.theory.proofs.Tree.{choices-length, choices-split}
 use Rattle.list.specs.declared.Ending.{Ending}
 use Rattle.list.specs.declared.Ending.the-variants.{All, More, Stopped}
 use Rattle.list.specs.declared.Level.{Level}
@@ -28,9 +28,6 @@ row-fits row rows n m h k = omega (arith, suc-mul row n, mul-le-mul-right {m = s
 
 rows-fit : (row rows n m : ℕ) → row ≤ rows → rows * n ≤ m → row * n ≤ m
 rows-fit row rows n m h k = omega (arith, mul-le-mul-right {m = row} {n = rows} n h)
-
-found-length : (l : List (Found Choice)) → length (choicesFound l) ≡ length l
-found-length l = length-map l (λ a. a .choice)
 
 -- told by another ending
 ends-as : (e f : Ending) → e ≡ f → (l : Level) (r : Run Choice) (old new : List ℕ) (w : Walk) → EndsIn e l r old new w → EndsIn f l r old new w
@@ -116,11 +113,11 @@ module _ (l : Level) (p : ℕ) (walk : ℕ → State → Run Choice) (out taken 
   split-length : (second : Run Choice) → length (split p first second .found) ≡ length (first .found) + length (second .found)
   split-length second = omega (
     arith,
-    found-length (split p first second .found),
+    choices-length (split p first second .found),
     ap length (split-choices second),
     length-append (choicesFound (first .found)) (choicesFound (second .found)),
-    found-length (first .found),
-    found-length (second .found),
+    choices-length (first .found),
+    choices-length (second .found),
   )
 
   -- "stopped when a split is needed and the allowance is used up"
@@ -170,7 +167,7 @@ module _ (l : Level) (p : ℕ) (walk : ℕ → State → Run Choice) (out taken 
         written : Appended old (l .row * l .variables) (rowBytes (choicesFound (first .found))) mid (next .row * l .variables)
         written =
             let all-of : take (length (first .found)) (choicesFound (first .found)) ≡ choicesFound (first .found) =
-            ap (λ (k : ℕ). take k (choicesFound (first .found))) (sym (found-length (first .found))) ∙ take-length (choicesFound (first .found)) in
+            ap (λ (k : ℕ). take k (choicesFound (first .found))) (sym (choices-length (first .found))) ∙ take-length (choicesFound (first .found)) in
             let here : l .row + length (first .found) ≡ l .row + w .rows = omega (arith, a .1 .rows-is) in
             rw (all-of, here) at (a .1 .bytes)
 
@@ -180,7 +177,7 @@ module _ (l : Level) (p : ℕ) (walk : ℕ → State → Run Choice) (out taken 
         chosen : (m : ℕ) → take (length (first .found) + m) (choicesFound (split p first second .found)) ≡ choicesFound (first .found) ++ take m (choicesFound (second .found))
         chosen m =
             ap (take (length (first .found) + m)) (split-choices second) ∙
-            ap (λ (k : ℕ). take (k + m) (choicesFound (first .found) ++ choicesFound (second .found))) (sym (found-length (first .found))) ∙
+            ap (λ (k : ℕ). take (k + m) (choicesFound (first .found) ++ choicesFound (second .found))) (sym (choices-length (first .found))) ∙
             take-append-add (choicesFound (first .found)) (choicesFound (second .found)) m
 
         both : (m : ℕ) → Wrote next second mid new v m → Wrote l (split p first second) old new (counted (w .rows) (1 + w .count) v) (length (first .found) + m)

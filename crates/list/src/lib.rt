@@ -1,4 +1,4 @@
-// List: the layouts of a table in order, as many as there is room asked for (document 02, A6), by the tree that splits on the lowest open variable.
+// List: the layouts of a table in order, as many as rows are asked for (document 02, A6), by the tree that splits on the lowest open variable.
 ghost use mathlib.Core.Path.{_≡_};
 ghost use Prim.Native.Nat.{_+_, _*_, _≤_};
 ghost use lib.Dec.{ltb};

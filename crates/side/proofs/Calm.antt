@@ -19,7 +19,7 @@ use Rattle.moves.specs.Sound.{Sound}
 use Rattle.engine.specs.Ready.{Rested}
 use Rattle.side.specs.Side.{Tallied, Calm}
 
-pub sound-tallied : {ix st wk : List ℕ} → Sound ix st wk → Tallied ix st
+sound-tallied : {ix st wk : List ℕ} → Sound ix st wk → Tallied ix st
 sound-tallied s = record {
   index = s .index;
   exact = s .exact;
@@ -43,8 +43,8 @@ pub wider : {n m : ℕ} {s : State} → n ≤ m → WellFormed n s → WellForme
 wider h w = record { low = w .low; fixed = w .fixed; beyond = λ p i. w .beyond p (omega arith) }
 
 -- the two literals of the branch variable, by their codes
-pub out-is : (p x : ℕ) → x ≡ codeOf (Pos p) → (s : State) → assign (literalAt x) FALSE s ≡ assign (Pos p) FALSE s
-out-is p x e s = rw (e, literalAt-codeOf (Pos p))
+pub out-assigns : (p x : ℕ) → x ≡ codeOf (Pos p) → (s : State) → assign (literalAt x) FALSE s ≡ assign (Pos p) FALSE s
+out-assigns p x e s = rw (e, literalAt-codeOf (Pos p))
 
-pub taken-is : (p x : ℕ) → x ≡ codeOf (Neg p) → (s : State) → assign (literalAt x) FALSE s ≡ assign (Pos p) TRUE s
-taken-is p x e s = rw (e, literalAt-codeOf (Neg p)) (assign-turned s (Pos p) TRUE)
+pub taken-assigns : (p x : ℕ) → x ≡ codeOf (Neg p) → (s : State) → assign (literalAt x) FALSE s ≡ assign (Pos p) TRUE s
+taken-assigns p x e s = rw (e, literalAt-codeOf (Neg p)) (assign-turned s (Pos p) TRUE)

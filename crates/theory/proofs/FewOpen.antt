@@ -1,15 +1,15 @@
 -- Where no rule fits and at most three variables are open, the live clauses have the same literals, and each open variable is left out in some solution and taken in another.
 use mathlib.Core.Path.{_≡_, refl, ap, sym, _∙_}
 use mathlib.Core.Bool.{Bool, true, false, not, cond, Bool·not-not}
-use mathlib.Core.Logic.{_⊎_, inl, inr, ⊎-elim}
+use mathlib.Core.Logic.{inl, inr, ⊎-elim}
 use mathlib.Core.Option.{Option, none, some}
-use mathlib.Core.List.{List, [], _∷_, List·Memᴰ, List·Memᴰ·head, List·Memᴰ·tail, List·Memᴰ·not-nil, List·Memᴰ·cases-cons, Memᴰ·cast}
+use mathlib.Core.List.{[], _∷_, List·Memᴰ, List·Memᴰ·head, List·Memᴰ·tail, Memᴰ·cast}
 use Prim.Native.Nat.{ℕ, _≤_}
 use native.Mathlib.Omega.{arith}
 use lib.Dec.{eqb}
 use lib.ListN.{length}
 use borrow.Author.Tests.{ne-eqb}
-use Rattle.general.specs.Lists.{Before, here, later}
+use Rattle.general.specs.Lists.{Before, members-ordered}
 use Rattle.literal.specs.declared.Literal.{Literal}
 use Rattle.literal.specs.declared.Literal.the-variants.{Pos, Neg}
 use Rattle.literal.specs.Literal.{FALSE, var, opposite, same}
@@ -28,17 +28,6 @@ use Rattle.theory.proofs.Literals.{same-refl, same-ne, of-variable}
 use Rattle.theory.proofs.Live.{InLive, in-live, none-alive, live-open, branch-least}
 use Rattle.theory.proofs.Pairs.{Meets, Live, meets-turned}
 use Rattle.theory.proofs.Splits.{rests-closed, live-all, live-second}
-
--- two members of a list are one, or one of them stands before the other
-members-ordered : {A : Type 0} (l : List A) {x y : A} → List·Memᴰ x l → List·Memᴰ y l → (x ≡ y) ⊎ (Before x y l ⊎ Before y x l)
-members-ordered [] m k = absurd (List·Memᴰ·not-nil m)
-members-ordered (z ∷ l) {x} {y} m k = ⊎-elim
-    (λ (e : x ≡ z). ⊎-elim (λ (d : y ≡ z). inl (e ∙ sym d)) (λ j. rw e (inr (inl (here j)))) (List·Memᴰ·cases-cons k))
-    (λ i. ⊎-elim
-    (λ (d : y ≡ z). rw d (inr (inr (here i))))
-    (λ j. ⊎-elim inl (λ o. inr (⊎-elim (λ b. inl (later b)) (λ b. inr (later b)) o)) (members-ordered l i j))
-    (List·Memᴰ·cases-cons k))
-    (List·Memᴰ·cases-cons m)
 
 -- values by which the literals of a clause are true as g says
 abbrev valuesOf : Clause → (Literal → Bool) → Assignment

@@ -1,27 +1,39 @@
 -- The list of all layouts: it has exactly the solutions, in order, and at most 2 ^ n of them; the first k layouts are its first k.
-use mathlib.Core.Path.{_≡_, refl, ap, _∙_}
+use mathlib.Core.Path.{_≡_, refl, ap, sym, _∙_}
 use mathlib.Core.Bool.{Bool, true, false}
 use mathlib.Core.Logic.{⊎-elim, _↔_}
 use mathlib.Core.List.{List, [], _∷_, map, List·Memᴰ, List·Memᴰ·head, List·Memᴰ·tail, List·Memᴰ·not-nil, List·Memᴰ·cases-cons, List·Memᴰ·append-cases, List·Memᴰ·eq-of-singleton, Memᴰ·append-left, Memᴰ·append-right}
-use Prim.Native.Nat.{ℕ, zero, suc, _^_, _≤_}
+use Prim.Native.Nat.{ℕ, zero, suc, _^_, _≤_, _<_}
+use native.Mathlib.Decide.{ℕ-discrete}
 use native.Mathlib.Omega.{arith}
 use native.Mathlib.Nat.{pow-suc}
-use lib.ListN.{length, take, length-append, length-map}
+use lib.ListN.{length, getD, take, length-append, length-map}
 use borrow.Author.Tests.{eqb-true, eq-eqb}
 use Rattle.general.specs.Booleans.{and-true, and-intro}
-use Rattle.general.specs.Lists.{mem-map, map-mem}
+use Rattle.general.specs.Lists.{mem-getD, mem-index, mem-map, map-mem}
 use Rattle.general.specs.Search.{mem-filter, filter-mem, filter-length}
 use Rattle.theory.specs.Formula.{Formula, trueCount, Satisfies, Choice, assignment, Solution}
-use Rattle.theory.specs.Order.{_≺_, Ascends, Firsts}
+use Rattle.theory.specs.Order.{_≼_, _≺_, Least, Ascends, Firsts}
 use Rattle.theory.specs.Layouts.{choices, meets, layouts}
-use Rattle.theory.proofs.Order.{≺-asym, ≺-cons, ≺-zero-one}
-use Rattle.theory.proofs.Ascending.{ascends-append, ascends-filter, ascends-map, firsts-taken}
+use Rattle.theory.proofs.Order.{≼-refl, ≺-asym, ≺-cons, ≺-zero-one}
+use Rattle.theory.proofs.Ascending.{ascends-at, ascends-append, ascends-filter, ascends-map, firsts-taken}
 
 -- all choices ----------------------------------------------------------------------------------------------------
 
 -- one placement more, with the value x for the first
 abbrev side : ℕ → Bool → List Choice
 side n x = map (_∷_ x) (choices n)
+
+-- in order, each once
+choices-ascend : (n : ℕ) → Ascends _≺_ (choices n)
+unfolding choices Ascends
+choices-ascend zero = (λ c m. absurd (List·Memᴰ·not-nil m), tt)
+choices-ascend (suc n) =
+    let within : (x : Bool) → Ascends _≺_ (side n x) = λ x. ascends-map _≺_ _≺_ (_∷_ x) (≺-cons x) (choices n) (choices-ascend n) in
+    ascends-append _≺_ (side n false) (side n true) (within false) (within true) across
+  where
+    across : (c d : Choice) → List·Memᴰ c (side n false) → List·Memᴰ d (side n true) → c ≺ d
+    across c d i j = let v = map-mem (_∷_ false) (choices n) c i in let w = map-mem (_∷_ true) (choices n) d j in rw (v .2, w .2) (≺-zero-one (v .0) (w .0))
 
 choices-long : (n : ℕ) (c : Choice) → List·Memᴰ c (choices n) → length c ≡ n
 unfolding choices
@@ -39,18 +51,8 @@ choices-all (suc n) [] e = absurd (omega arith)
 choices-all (suc n) (false ∷ c) e = Memᴰ·append-left (side n true) (mem-map (_∷_ false) (choices n) c (choices-all n c (omega arith)))
 choices-all (suc n) (true ∷ c) e = Memᴰ·append-right (side n false) (mem-map (_∷_ true) (choices n) c (choices-all n c (omega arith)))
 
-choices-ascend : (n : ℕ) → Ascends _≺_ (choices n)
-unfolding choices Ascends
-choices-ascend zero = (λ c m. absurd (List·Memᴰ·not-nil m), tt)
-choices-ascend (suc n) =
-    let within : (x : Bool) → Ascends _≺_ (side n x) = λ x. ascends-map _≺_ _≺_ (_∷_ x) (≺-cons x) (choices n) (choices-ascend n) in
-    ascends-append _≺_ (side n false) (side n true) (within false) (within true) across
-  where
-    across : (c d : Choice) → List·Memᴰ c (side n false) → List·Memᴰ d (side n true) → c ≺ d
-    across c d i j = let v = map-mem (_∷_ false) (choices n) c i in let w = map-mem (_∷_ true) (choices n) d j in rw (v .2, w .2) (≺-zero-one (v .0) (w .0))
-
 -- 2 ^ n choices of n placements
-pub length-choices : (n : ℕ) → length (choices n) ≡ 2 ^ n
+length-choices : (n : ℕ) → length (choices n) ≡ 2 ^ n
 unfolding choices
 length-choices zero = refl
 length-choices (suc n) =
@@ -90,3 +92,15 @@ layouts-most n f = omega (arith, filter-length (meets f) (choices n), length-cho
 -- the first k solutions are the first k layouts listed
 pub firsts-layouts : (n : ℕ) (f : Formula) (k : ℕ) (l : List Choice) → Firsts _≺_ (Solution n f) k l → l ≡ take k (layouts n f)
 firsts-layouts n f k l w = firsts-taken ≺-asym w (layouts-ascend n f) (layouts-exactly n f)
+
+-- the first of them is the least
+pub layouts-first : (n : ℕ) (f : Formula) (d : Choice) → 0 < length (layouts n f) → Least _≼_ (Solution n f) (getD (layouts n f) 0 d)
+layouts-first n f d h = record { member = layouts-exactly n f (getD (layouts n f) 0 d) .0 (mem-getD (layouts n f) 0 d h); least = before }
+  where
+    before : (c : Choice) → Solution n f c → getD (layouts n f) 0 d ≼ c
+    before c s =
+        let w = mem-index (layouts n f) c d (layouts-exactly n f c .1 s) in
+        elim (ℕ-discrete (w .0) 0) [
+          | yes e ↦ let same : getD (layouts n f) 0 d ≡ c = ap (λ (i : ℕ). getD (layouts n f) i d) (sym e) ∙ w .2 in rw same (≼-refl c)
+          | no e ↦ rw (← w .2) (ascends-at _≺_ (layouts n f) (layouts-ascend n f) 0 (w .0) (omega arith) (w .1) d .0)
+        ]

@@ -7,7 +7,7 @@ use Prim.Native.Nat.{ℕ, suc, _-_, _<_, min}
 use native.Mathlib.Omega.{arith}
 use borrow.Author.Tests.{ltb-true, lt-ltb}
 use lib.IntN.{ℤ}
-use lib.ListN.{length, take, length-take, length-map}
+use lib.ListN.{length, take, length-take}
 use lib.Seq.{take-take}
 use Rattle.receipt.specs.declared.Outcome.the-variants.{Stopped}
 use Rattle.receipt.specs.Answers.{listingReceipt, saysMore}
@@ -19,6 +19,7 @@ use Rattle.theory.specs.Table.{Accepted}
 use Rattle.theory.specs.Tree.{choicesFound, Result, finish}
 use Rattle.theory.proofs.Budget.{limited-finished}
 use Rattle.theory.proofs.Listing.{list-layouts}
+use Rattle.theory.proofs.Tree.{choices-length}
 
 module _ (n : ℕ) (t : List ℤ) (accepted : Accepted n t) (k b : ℕ) (ends : ¬ (list n t k b .outcome ≡ Stopped)) where
   abbrev all : List Choice
@@ -27,27 +28,27 @@ module _ (n : ℕ) (t : List ℤ) (accepted : Accepted n t) (k b : ℕ) (ends : 
   abbrev r : Result Choice
   r = list n t k b
 
-  pub list-finished : r ≡ finish (listTree n t k)
+  pub listed-finished : r ≡ finish (listTree n t k)
   unfolding list
-  list-finished = limited-finished b (listTree n t k) ends
+  listed-finished = limited-finished b (listTree n t k) ends
 
   -- one layout past the rows is looked for
   found-is : choicesFound (r .found) ≡ take (suc k) all
-  found-is = ap (λ (x : Result Choice). choicesFound (x .found)) list-finished ∙ list-layouts n t accepted k
+  found-is = ap (λ (x : Result Choice). choicesFound (x .found)) listed-finished ∙ list-layouts n t accepted k
 
-  pub list-length : length (r .found) ≡ min (suc k) (length all)
-  list-length = sym (length-map (r .found) (λ a. a .choice)) ∙ ap length found-is ∙ length-take (suc k) all
+  pub listed-length : length (r .found) ≡ min (suc k) (length all)
+  listed-length = sym (choices-length (r .found)) ∙ ap length found-is ∙ length-take (suc k) all
 
   -- "all layouts in document 01's order, each once, up to k"; "Unused rows become 0."
-  pub list-rows : rowsOf n k (choicesFound (r .found)) ≡ rowsOf n k all
-  list-rows =
+  pub listed-rows : rowsOf n k (choicesFound (r .found)) ≡ rowsOf n k all
+  listed-rows =
       let e : k - length (take (suc k) all) ≡ k - length all = omega (arith, length-take (suc k) all) in
       rw (found-is, take-take k (suc k) all (omega arith), e)
 
   -- "place is the rows written": the smaller of k and the number of layouts
-  pub list-place : listingReceipt (listAnswer k r) .place ≡ min k (length all)
-  list-place = omega (arith, list-length)
+  pub listed-place : listingReceipt (listAnswer k r) .place ≡ min k (length all)
+  listed-place = omega (arith, listed-length)
 
   -- "the answer says "more" when a further one exists and otherwise not"
-  pub list-more : (saysMore (listAnswer k r) ≡ true) ↔ (k < length all)
-  list-more = (λ m. omega (arith, list-length, ltb-true k (length (r .found)) m), λ h. lt-ltb k (length (r .found)) (omega (arith, list-length)))
+  pub listed-more : (saysMore (listAnswer k r) ≡ true) ↔ (k < length all)
+  listed-more = (λ m. omega (arith, listed-length, ltb-true k (length (r .found)) m), λ h. lt-ltb k (length (r .found)) (omega (arith, listed-length)))

@@ -125,7 +125,7 @@ module _ {n : ℕ} {f : Formula} (within : Within n f) where
           (omega (arith, opens-bound initial n))
 
   -- so what it finds are the first of all layouts
-  pub tree-layouts : (k : ℕ) → choicesFound (openTree n f (suc k) initial .found) ≡ take (suc k) (layouts n f)
+  tree-layouts : (k : ℕ) → choicesFound (openTree n f (suc k) initial .found) ≡ take (suc k) (layouts n f)
   tree-layouts k = firsts-layouts n f (suc k) _ (tree-lists k)
 
 -- of a table that passes the check

@@ -189,16 +189,16 @@ module _ {n : ℕ} {f : Formula} (within : Within n f) where
         go (rest u) e = inr (tree-cost Fits (decideOpen n f) halves n k initial (initial-well n, rw e (opens-bound u n)))
 
     -- Attained: to find all 2 ^ n solutions of the empty table takes 2 ^ n - 1 splits.
-    pub listing-under : listing .splits < 2 ^ n
+    listing-under : listing .splits < 2 ^ n
     listing-under = ⊎-elim (λ e. rw e (one-le-pow n 2 (omega arith))) (λ c. c .under) listing-cost
 
     -- Wherever the walk ends. Attained: the empty table for n of 3 or more takes 2 ^ n - 5 splits to find 2 ^ n - 7 solutions.
-    pub listing-bound : 8 * (listing .splits) ≤ 2 ^ n + 7 * foundBy listing + 9
+    listing-bound : 8 * (listing .splits) ≤ 2 ^ n + 7 * foundBy listing + 9
     listing-bound = ⊎-elim (λ e. rw e (omega arith)) (λ c. omega (arith, c .always, untried-most n)) listing-cost
 
     -- Where all solutions are found. Attained: the empty table with its 2 ^ n solutions; and with none, by 2 ^ (n - 3) - 1 splits, the clauses of any three of the last
     -- four variables.
-    pub listing-bound-all : foundBy listing ≤ k → 8 * (listing .splits) ≤ 2 ^ n + 7 * foundBy listing - 8
+    listing-bound-all : foundBy listing ≤ k → 8 * (listing .splits) ≤ 2 ^ n + 7 * foundBy listing - 8
     listing-bound-all l = ⊎-elim (λ e. rw e (omega arith)) (λ c. omega (arith, c .complete (omega arith))) listing-cost
 
 -- of a table that passes the check

@@ -57,6 +57,12 @@ unfolding _≼_
 ≼-trans (true ∷ b) (true ∷ c) (false ∷ d) h k = absurd k
 ≼-trans (true ∷ b) (true ∷ c) (true ∷ d) h k = ≼-trans b c d h k
 
+pub ≼-refl : (c : Choice) → c ≼ c
+unfolding _≼_
+≼-refl [] = tt
+≼-refl (false ∷ c) = ≼-refl c
+≼-refl (true ∷ c) = ≼-refl c
+
 -- where each is the other or comes before it, they are the same
 pub ≼-antisym : (c d : Choice) → c ≼ d → d ≼ c → c ≡ d
 unfolding _≼_

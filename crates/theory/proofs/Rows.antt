@@ -1,13 +1,12 @@
 -- Rows of bytes: those of one list after those of another, how long they are, and each by its number.
 use mathlib.Core.Path.{_≡_, refl, ap, sym, _∙_}
-use mathlib.Core.Bool.{Bool, true, false}
 use mathlib.Core.List.{List, [], _∷_, _++_, map, append-assoc, List·Memᴰ, List·Memᴰ·head, List·Memᴰ·tail}
 use Prim.Native.Nat.{ℕ, zero, suc, _+_, _*_, _-_, _<_, min}
 use native.Mathlib.Nat.{suc-mul, zero-mul, add-mul}
 use native.Mathlib.Omega.{arith}
 use lib.ListN.{length, getD, take, drop, replicate, length-take, length-append, length-map, length-replicate}
 use lib.Seq.{take-at, drop-at, getD-take, drop-append-add}
-use Rattle.general.specs.Booleans.{bit}
+use Rattle.general.specs.Booleans.{bit, bit-same}
 use Rattle.general.specs.Lists.{take-mem}
 use Rattle.theory.specs.Formula.{Choice}
 use Rattle.theory.specs.Listing.{rowBytes, rowsOf}
@@ -19,14 +18,14 @@ rows-append (c ∷ l) m = rw (rows-append l m) (sym (append-assoc (map bit c) (r
 
 -- of choices of n variables
 module _ (n : ℕ) where
-  pub rows-length : (l : List Choice) → ((c : Choice) → List·Memᴰ c l → length c ≡ n) → length (rowBytes l) ≡ length l * n
+  rows-length : (l : List Choice) → ((c : Choice) → List·Memᴰ c l → length c ≡ n) → length (rowBytes l) ≡ length l * n
   unfolding rowBytes
   rows-length [] h = sym (zero-mul n)
   rows-length (c ∷ l) h =
       omega (arith, length-append (map bit c) (rowBytes l), length-map c bit, h c (List·Memᴰ·head refl), rows-length l (λ d m. h d (List·Memᴰ·tail m)), suc-mul (length l) n)
 
   -- row i, whatever follows the rows
-  pub row-at : (l : List Choice) → ((c : Choice) → List·Memᴰ c l → length c ≡ n) → (b : List ℕ) (i : ℕ) → i < length l → (d : Choice) →
+  row-at : (l : List Choice) → ((c : Choice) → List·Memᴰ c l → length c ≡ n) → (b : List ℕ) (i : ℕ) → i < length l → (d : Choice) →
       take n (drop (i * n) (rowBytes l ++ b)) ≡ map bit (getD l i d)
   unfolding rowBytes
   row-at [] h b i k d = absurd (omega arith)
@@ -67,9 +66,3 @@ bits-same [] [] e = refl
 bits-same [] (y ∷ d) e = absurd (omega (arith, ap length e))
 bits-same (x ∷ c) [] e = absurd (omega (arith, ap length e))
 bits-same (x ∷ c) (y ∷ d) e = rw (bit-same x y (ap (λ (l : List ℕ). getD l 0 0) e)) (ap (_∷_ y) (bits-same c d (ap (drop 1) e)))
-  where
-    bit-same : (x y : Bool) → bit x ≡ bit y → x ≡ y
-    bit-same true true q = refl
-    bit-same true false q = absurd (omega arith)
-    bit-same false true q = absurd (omega arith)
-    bit-same false false q = refl

@@ -164,7 +164,7 @@ module _ {n : ℕ} {f : Formula} (within : Within n f) where
           (alive-differ (h .lives) (b .second) (b .third) (b .second-in) (b .third-in) (b .apart))
 
       -- a live clause has three open variables
-      pub live-three : 3 ≤ opens u n
+      live-three : 3 ≤ opens u n
       live-three = omega (arith, live-closes .fewer)
 
       -- where no more are open, all open variables stand in the clause

@@ -131,12 +131,16 @@ module _ {S A : Type 0} (Good : S → Type 0) (left : S → ℕ) (Sol : S → A 
 
 -- All that a tree finds, where a leaf has one solution and the left-out side comes before the taken side --------------
 
+pub choices-length : {A : Type 0} (l : List (Found A)) → length (choicesFound l) ≡ length l
+choices-length l = length-map l (λ a. a .choice)
+
 pub choices-split : {A : Type 0} (p : ℕ) (x y : List (Found A)) → choicesFound (through (Neg p) x ++ through (Pos p) y) ≡ choicesFound x ++ choicesFound y
 choices-split p [] [] = refl
 choices-split p [] (b ∷ y) = ap (_∷_ (b .choice)) (choices-split p [] y)
 choices-split p (a ∷ x) y = ap (_∷_ (a .choice)) (choices-split p x y)
 
 module _ {S A : Type 0} (Good : S → Type 0) (left : S → ℕ) (Sol : S → A → Type 0) (Le Lt : A → A → Type 0) where
+  -- a leaf has no other solution, and what is left out comes before what is taken
   abbrev pub Strict : S → Decision S A → Type 0
   Strict s dead = Unit {0}
   Strict s (done a) = (b : A) → Sol s b → b ≡ a
@@ -201,7 +205,7 @@ module _ {S A : Type 0} (Good : S → Type 0) (left : S → ℕ) (Sol : S → A 
             first = ih k l (w .good-left) (omega arith)
 
             long : length (choicesFound found) ≡ length found
-            long = length-map found (λ a. a .choice)
+            long = choices-length found
 
             rest : (j : ℕ) → suc k - length found ≡ j → FirstsOf s (suc k) (choicesFound found ++ choicesFound (tried (tree decide f) j r .found))
             rest zero e = rw (append-nil (choicesFound found)) (firsts-enough w o (suc k) (choicesFound found) first (omega (arith, first .most, long)))

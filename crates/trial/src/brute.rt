@@ -69,6 +69,19 @@ pub fn first_solution(table: &[i16], assignment: &mut [u8], from: usize, n: usiz
     false
 }
 
+// Whether there is a solution after this one; the assignment is then the next one.
+pub fn next_solution(table: &[i16], assignment: &mut [u8], from: usize, n: usize) -> bool {
+    for _i in 0..TRIES {
+        if !next_assignment(assignment, from, n) {
+            return false;
+        }
+        if is_solution(table, assignment) {
+            return true;
+        }
+    }
+    false
+}
+
 fn excluded(table: &[i16], list: &[i16], assignment: &[u8], n: usize) -> bool {
     if is_solution(table, assignment) {
         return !follows(list, assignment, n);

@@ -110,6 +110,15 @@ pub fn clear_numbers(list: &mut [u16], n: usize) {
     }
 }
 
+// The first bytes of another list, so many, and the next index.
+pub fn put_bytes(list: &mut [u8], from: usize, bytes: &[u8], count: usize) -> usize {
+    let mut at = from;
+    for i in 0..count {
+        at = put_byte(list, at, byte_at(bytes, i));
+    }
+    at
+}
+
 // A count, which stays where no trial comes.
 pub fn more(count: usize) -> usize {
     if count < 1000000000 { count + 1 } else { count }

@@ -181,8 +181,17 @@ fn open_all(list: &mut [i16], n: usize) {
     }
 }
 
+fn lowest_open(list: &[i16], n: usize) -> usize {
+    for i in 0..n {
+        if entry_at(list, i) == signed(i + 1, true) {
+            return i + 1;
+        }
+    }
+    0
+}
+
 impl Steps {
-    fn new(n: usize) -> Steps {
+    pub fn new(n: usize) -> Steps {
         let start = emptied(plain(0, 0, 0), n);
         let mut list = start.list;
         let reasons = start.reasons;
@@ -256,6 +265,23 @@ impl Steps {
         self.obeyed(n, walk)
     }
 
+    pub fn is_dead_end(self) -> bool {
+        self.number == 10
+    }
+
+    // The lowest open variable; 0 where there is none.
+    pub fn lowest_open(self, n: usize) -> usize {
+        let list = self.list;
+        lowest_open(&list, n)
+    }
+
+    // A side of a split, to be settled again.
+    pub fn decided(self, n: usize, p: usize, side: i16) -> Steps {
+        let mut after = self.assigned(n, signed(p, true), side);
+        after.number = 0;
+        after
+    }
+
     pub fn run(self) -> Run {
         let list = self.list;
         let reasons = self.reasons;
@@ -268,10 +294,14 @@ impl Steps {
 }
 
 // Settling to its end: each step settles or ties a variable, and one more finds nothing to ask.
-pub fn settle(table: &[i16], n: usize) -> Steps {
-    let mut steps = Steps::new(n);
+pub fn settle_from(table: &[i16], n: usize, before: Steps) -> Steps {
+    let mut steps = before;
     for _i in 0..more(n) {
         steps = steps.next(table, n);
     }
     steps
+}
+
+pub fn settle(table: &[i16], n: usize) -> Steps {
+    settle_from(table, n, Steps::new(n))
 }

@@ -7,13 +7,13 @@ use super::settled::forms_of;
 use std::num::wrapping_add_usize;
 
 // The numbers on the receipt are below this one.
-const NUMBERS: usize = 27;
+const NUMBERS: usize = 28;
 
 // So are the rules of settling below this one.
 const RULES: usize = 9;
 
 // How many answers of each number, how many that were not as expected, what an operation measures (the splits of a search, the bytes of a strip), added up and at
-// most, what settled lists say, and how many reasons each rule gave.
+// most, what settled lists say, how many reasons each rule gave, how many filings were listed whole and how many in part, and how many answers said "more".
 pub struct Tally {
     answers: [usize; NUMBERS],
     pub disagreements: usize,
@@ -21,6 +21,9 @@ pub struct Tally {
     most: usize,
     forms: Forms,
     rules: [usize; RULES],
+    whole: usize,
+    partial: usize,
+    further: usize,
 }
 
 fn line(name: &[u8], count: usize) {
@@ -38,6 +41,9 @@ impl Tally {
             most: 0,
             forms: Forms::new(),
             rules: [0usize; RULES],
+            whole: 0,
+            partial: 0,
+            further: 0,
         }
     }
 
@@ -95,6 +101,22 @@ impl Tally {
             tally = tally.with_rule(byte_at(rules, i));
         }
         tally
+    }
+
+    pub fn with_filing(mut self, whole: bool) -> Tally {
+        if whole {
+            self.whole = more(self.whole);
+        } else {
+            self.partial = more(self.partial);
+        }
+        self
+    }
+
+    pub fn with_more(mut self, says_more: bool) -> Tally {
+        if says_more {
+            self.further = more(self.further);
+        }
+        self
     }
 
     // The answers of a number, under a name.
@@ -155,6 +177,18 @@ impl Tally {
         self.show_rule(6);
         self.show_rule(7);
         self.show_rule(8);
+    }
+
+    pub fn show_filings(self) {
+        line(
+            b"filings with every k up to one above their layouts",
+            self.whole,
+        );
+        line(b"filings with every k in the room", self.partial);
+    }
+
+    pub fn show_more(self) {
+        line(b"with more", self.further);
     }
 
     pub fn show_disagreements(self) {

@@ -1,8 +1,9 @@
-// Every operation beside something that shares no definition with it: a solver that tries all choices, settling rule by rule, slow checks of tables, a slow reader, a
-// plain writer. For each operation the program prints how many answers of each number there were, and how many were not as expected.
+// Every operation beside something that shares no definition with it: a solver that tries all choices, settling rule by rule, a tree over it, slow checks of tables, a
+// slow reader, a plain writer. For each operation the program prints how many answers of each number there were, and how many were not as expected.
 mod add_trial;
 mod check_trial;
 mod index_trial;
+mod list_trial;
 mod read_trial;
 mod save_trial;
 mod search_trial;
@@ -23,6 +24,7 @@ enum Operation {
     Read,
     Save,
     SaveAgain,
+    List,
 }
 
 fn tried(operation: Operation, number: usize, tally: Tally) -> Tally {
@@ -39,6 +41,7 @@ fn tried(operation: Operation, number: usize, tally: Tally) -> Tally {
         Operation::Read => read_trial::tried(filing, formula, &mut seed, tally),
         Operation::Save => save_trial::tried(filing, formula, &mut seed, tally),
         Operation::SaveAgain => save_trial::tried_again(filing, formula, &mut seed, tally),
+        Operation::List => list_trial::tried(filing, formula, &mut seed, tally),
     }
 }
 
@@ -135,6 +138,20 @@ fn save_again_all() -> usize {
     tally.disagreements
 }
 
+fn list_all() -> usize {
+    show::text(b"list\n");
+    let tally = tally_of(Operation::List);
+    tally.show_filings();
+    tally.show(b"laid out", 0);
+    tally.show_more();
+    tally.show(b"no layout", 10);
+    tally.show(b"stopped", 11);
+    tally.show_refused(&[1u8, 2, 3, 4, 5, 27]);
+    tally.show_splits();
+    tally.show_disagreements();
+    tally.disagreements
+}
+
 fn main() {
     show::text(b"filings");
     show::number(FILINGS as u64);
@@ -147,7 +164,8 @@ fn main() {
     let read = wrapping_add_usize(index, read_all());
     let save = wrapping_add_usize(read, save_all());
     let again = wrapping_add_usize(save, save_again_all());
+    let list = wrapping_add_usize(again, list_all());
     show::text(b"all disagreements");
-    show::number(again as u64);
+    show::number(list as u64);
     show::text(b"\n");
 }

@@ -24,7 +24,7 @@ use Rattle.tally.specs.Tally.{stateIn}
 use Rattle.engine.specs.Ready.{Rested}
 use Rattle.engine.proofs.Settles.{rested-settles}
 use Rattle.side.specs.Branch.{branchOf}
-use Rattle.side.proofs.Calm.{out-is, taken-is}
+use Rattle.side.proofs.Calm.{out-assigns, taken-assigns}
 use Rattle.side.proofs.Splitting.{walkWeight, side-siding, side-falls}
 use Rattle.list.specs.declared.Ending.the-variants.{All}
 use Rattle.list.specs.declared.Level.{Level}
@@ -150,7 +150,7 @@ some-left t f = f .before .before .before .before .before .before .before .befor
 first-is : (t : ℕ) (b : FirstBegun t) →
     let a = start t b .args in
     assign (literalAt (b .before .code .result)) FALSE (stateIn (now (a .state))) ≡ assign (Pos (a .p .0)) FALSE (stateIn (now (a .state)))
-first-is t b = let a = start t b .args in out-is (a .p .0) (b .before .code .result) (b .before .code .ensures) (stateIn (now (a .state)))
+first-is t b = let a = start t b .args in out-assigns (a .p .0) (b .before .code .result) (b .before .code .ensures) (stateIn (now (a .state)))
 
 -- what the first side is given, its run from the left-out state, and what it has done
 abbrev firstLevel : (t : ℕ) → FirstWalked t → Level
@@ -187,7 +187,7 @@ rows-fit t f = some-left t f .before .struct-known .given .1 .1 .1 .0
 second-is : (t : ℕ) (b : SecondBegun t) →
     let a = origin t (before t b) .args in
     assign (literalAt (b .before .code2 .result)) FALSE (stateIn (now (a .state))) ≡ assign (Pos (a .p .0)) TRUE (stateIn (now (a .state)))
-second-is t b = let a = origin t (before t b) .args in taken-is (a .p .0) (b .before .code2 .result) (b .before .code2 .ensures ∙ ap codeOf (b .before .before .opposite .ensures)) (stateIn (now (a .state)))
+second-is t b = let a = origin t (before t b) .args in taken-assigns (a .p .0) (b .before .code2 .result) (b .before .code2 .ensures ∙ ap codeOf (b .before .before .opposite .ensures)) (stateIn (now (a .state)))
 
 -- the trees from both sides
 abbrev walksOf : (t : ℕ) → FirstWalked t → ℕ → State → Run Choice

@@ -22,7 +22,7 @@ use Rattle.search.specs.Walk.{Beginning, walked, treeWalk, under}
 use Rattle.search.proofs.Outcomes.{other-outcome}
 use Rattle.search.proofs.Sides.{died-walk, rested-fewer, rested-branchable, rested-splittable, branch-open}
 use Rattle.search.proofs.Sides.{side-deep, side-room, side-walkable, side-walk, side-passable}
-use Rattle.side.proofs.Calm.{out-is, taken-is}
+use Rattle.side.proofs.Calm.{out-assigns, taken-assigns}
 use Rattle.side.proofs.Splitting.{walkWeight, side-siding, side-falls}
 use Rattle.theory.proofs.Picking.{branch-picking, at-rest}
 use Rattle.search.proofs.Walking.{walk-count, leaf-walk, none-left, first-side, second-side}
@@ -146,7 +146,7 @@ some-left t f = f .before .before .before .before .before .before .before .befor
 first-is : (t : ℕ) (b : FirstBegun t) →
     let a = start t b .args in
     assign (literalAt (b .before .code .result)) FALSE (stateIn (now (a .state))) ≡ assign (Pos (a .p .0)) FALSE (stateIn (now (a .state)))
-first-is t b = let a = start t b .args in out-is (a .p .0) (b .before .code .result) (b .before .code .ensures) (stateIn (now (a .state)))
+first-is t b = let a = start t b .args in out-assigns (a .p .0) (b .before .code .result) (b .before .code .ensures) (stateIn (now (a .state)))
 
 -- what the first side makes, from the left-out state; its count is within its allowance
 first-walk : (t : ℕ) (f : FirstWalked t) →
@@ -164,7 +164,7 @@ first-count t f = omega (arith, walk-count _ _ _ _ _ _ _ (first-walk t f), some-
 second-is : (t : ℕ) (b : SecondBegun t) →
     let a = origin t (before t b) .args in
     assign (literalAt (b .before .code2 .result)) FALSE (stateIn (now (a .state))) ≡ assign (Pos (a .p .0)) TRUE (stateIn (now (a .state)))
-second-is t b = let a = origin t (before t b) .args in taken-is (a .p .0) (b .before .code2 .result) (b .before .code2 .ensures ∙ ap codeOf (b .before .before .opposite .ensures)) (stateIn (now (a .state)))
+second-is t b = let a = origin t (before t b) .args in taken-assigns (a .p .0) (b .before .code2 .result) (b .before .code2 .ensures ∙ ap codeOf (b .before .before .opposite .ensures)) (stateIn (now (a .state)))
 
 -- and the second, from the taken state and with what the first side leaves
 second-walk : (t : ℕ) (b : SecondWalked t) →
