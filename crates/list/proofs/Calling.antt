@@ -54,7 +54,7 @@ module _ (n k b : ℕ) (r : Run Choice) (old mid : List ℕ) (w : Walk) where
   pub kept-most : Walked (top n k b) r old mid w → keptRows w ≤ k
   kept-most h = go (w .ending) (omega (arith, walked-rows (top n k b) r old mid w h))
     where
-      go : (e : Ending) → w .rows ≤ k → kept e (w .rows) ≤ k
+      go : (e : Ending) → w .written ≤ k → kept e (w .written) ≤ k
       go ending.All h = h
       go ending.More h = h
       go ending.Stopped h = omega arith
@@ -87,12 +87,12 @@ module _ (n k b : ℕ) (r : Run Choice) (old mid : List ℕ) (w : Walk) where
     unfolding rowBytes
     walked-call h is = go (w .ending) h is
       where
-        go : (e : Ending) → EndsIn e (top n k b) r old mid w → Clears (kept e (w .rows)) → called (endedAs e (kept e (w .rows)) (w .count)) new ≡ listedCall n k (limited b r) old
+        go : (e : Ending) → EndsIn e (top n k b) r old mid w → Clears (kept e (w .written)) → called (endedAs e (kept e (w .written)) (w .count)) new ≡ listedCall n k (limited b r) old
         go ending.All h is =
             let few : length (r .found) ≤ k = omega (arith, h .0) in
             let cs : List Choice = choicesFound (r .found) in
             rw (limited-enough b r (h .1 .enough))
-            (same-call (finish r) _ (w .rows) false (w .count) (rw (h .1 .rows-is) (finished-as (r .found))) (omega (arith, h .1 .rows-is)) (sym (le-ltb k (length (r .found)) few)) (h .1 .count)
+            (same-call (finish r) _ (w .written) false (w .count) (rw (h .1 .rows-is) (finished-as (r .found))) (omega (arith, h .1 .rows-is)) (sym (le-ltb k (length (r .found)) few)) (h .1 .count)
             (wrote-call (length (r .found)) few (h .1) (rw (h .1 .rows-is) at is) ∙
             ap (λ l. over (k * n) l old) (rows-as (length (r .found)) (take-all (length (r .found)) cs (omega (arith, found)) ∙ sym (take-all k cs (omega (arith, found)))) (omega (arith, found)))))
         go ending.More h is =
@@ -100,7 +100,7 @@ module _ (n k b : ℕ) (r : Run Choice) (old mid : List ℕ) (w : Walk) where
             let g : Wrote (top n k b) r old mid w k = rw all at (h .1) in
             let some-found : ¬ (length (r .found) ≡ 0) = λ e. omega (arith, h .0) in
             rw (limited-enough b r (g .enough))
-            (same-call (finish r) LaidOut (w .rows) true (w .count) (rw (ne-eqb (length (r .found)) 0 some-found) at (finished-as (r .found))) (omega (arith, g .rows-is, h .0))
+            (same-call (finish r) LaidOut (w .written) true (w .count) (rw (ne-eqb (length (r .found)) 0 some-found) at (finished-as (r .found))) (omega (arith, g .rows-is, h .0))
             (sym (lt-ltb k (length (r .found)) (omega (arith, h .0)))) (g .count)
             (wrote-call k (omega arith) g (rw (g .rows-is) at is) ∙ ap (λ l. over (k * n) l old) (rows-as k refl (omega (arith, found, h .0)))))
         go ending.Stopped h is =

@@ -41,10 +41,10 @@ same-walked q l old new w = same-run q (w .ending) l old new w
 
 -- a walk writes no more rows than are left, and makes no more splits than it may
 module _ (l : Level) (r : Run Choice) (old new : List ℕ) (w : Walk) where
-  pub walked-rows : Walked l r old new w → w .rows ≤ room l
+  pub walked-rows : Walked l r old new w → w .written ≤ room l
   walked-rows h = go (w .ending) h
     where
-      go : (e : Ending) → EndsIn e l r old new w → w .rows ≤ room l
+      go : (e : Ending) → EndsIn e l r old new w → w .written ≤ room l
       go All h = omega (arith, h .0, h .1 .rows-is)
       go More h = omega (arith, h .1 .rows-is)
       go Stopped h = h .few
@@ -62,25 +62,25 @@ module _ (l : Level) (r : Run Choice) (old new : List ℕ) (w : Walk) where
 module _ {l : Level} {old : List ℕ} (k : Rowable l old) where
   -- nothing is written
   unwritten : Appended old (l .row * l .variables) [] old ((l .row + 0) * l .variables)
-  unwritten = let e : l .row + 0 ≡ l .row = add-zero (l .row) in rw e (append-nothing old (l .row * l .variables) (rows-fit (l .row) (l .rows) (l .variables) (length old) (k .next) (k .fits)))
+  unwritten = let e : l .row + 0 ≡ l .row = add-zero (l .row) in rw e (append-nothing old (l .row * l .variables) (rows-fit (l .row) (l .wanted) (l .variables) (length old) (k .next) (k .fits)))
 
   -- "Dead end: no layout here."
-  pub dead-walked : Walked l (run [] 0) old old (record { ending = All; rows = 0; count = 0 })
+  pub dead-walked : Walked l (run [] 0) old old (record { ending = All; written = 0; count = 0 })
   unfolding rowBytes
   dead-walked = (omega arith, record { enough = omega arith; count = refl; rows-is = refl; bytes = unwritten })
 
   module _ (s : State) where
     -- one layout more than there are rows
-    pub leaf-more : l .row ≡ l .rows → Walked l (leafRun (l .variables) s) old old (record { ending = More; rows = 0; count = 0 })
+    pub leaf-more : l .row ≡ l .wanted → Walked l (leafRun (l .variables) s) old old (record { ending = More; written = 0; count = 0 })
     unfolding rowBytes
     leaf-more e =
         let none-left : room l ≡ 0 = omega arith in
         (rw none-left, record { enough = omega arith; count = refl; rows-is = sym none-left; bytes = rw none-left unwritten })
 
     -- a layout in the next row
-    pub leaf-row : ¬ (l .row ≡ l .rows) → (new : List ℕ) →
+    pub leaf-row : ¬ (l .row ≡ l .wanted) → (new : List ℕ) →
         new ≡ take (l .row * l .variables) old ++ (map bit (choiceOf (l .variables) s) ++ drop (l .row * l .variables + l .variables) old) →
-        Walked l (leafRun (l .variables) s) old new (record { ending = All; rows = 1; count = 0 })
+        Walked l (leafRun (l .variables) s) old new (record { ending = All; written = 1; count = 0 })
     unfolding rowBytes
     leaf-row h new e =
         let next : (l .row + 1) * l .variables ≡ l .row * l .variables + l .variables = omega (arith, suc-mul (l .row) (l .variables)) in (
@@ -91,7 +91,7 @@ module _ {l : Level} {old : List ℕ} (k : Rowable l old) where
             rows-is = refl;
             bytes = rw (next, append-nil (map bit (choiceOf (l .variables) s))) (record {
               ends = omega (arith, length-map (choiceOf (l .variables) s) bit, choice-long (l .variables) s);
-              room = row-fits (l .row) (l .rows) (l .variables) (length old) (omega (arith, k .next)) (k .fits);
+              room = row-fits (l .row) (l .wanted) (l .variables) (length old) (omega (arith, k .next)) (k .fits);
               whole = e;
             });
           },
@@ -121,7 +121,7 @@ module _ (l : Level) (p : ℕ) (walk : ℕ → State → Run Choice) (out taken 
   )
 
   -- "stopped when a split is needed and the allowance is used up"
-  pub none-left : l .left ≡ 0 → (old : List ℕ) → Walked l whole old old (record { ending = Stopped; rows = 0; count = 0 })
+  pub none-left : l .left ≡ 0 → (old : List ℕ) → Walked l whole old old (record { ending = Stopped; written = 0; count = 0 })
   none-left e old = record { short = omega arith; count = sym e; few = omega arith; beyond = refl }
 
   module _ (some-left : ¬ (l .left ≡ 0)) (old mid : List ℕ) (w : Walk) (ew : Walked (under p (l .left - 1) (l .row) l) first old mid w) where
@@ -146,16 +146,16 @@ module _ (l : Level) (p : ℕ) (walk : ℕ → State → Run Choice) (out taken 
         go Stopped e h = record { short = omega (arith, h .short); count = omega (arith, h .count); few = omega (arith, h .few); beyond = h .beyond }
 
     -- it has found all that it has, and rows are left for the taken side
-    pub second-side : l .row ≤ l .rows → w .ending ≡ All → (new : List ℕ) (v : Walk) →
-        (let r = l .row + w .rows in Walked (under p (l .left - (1 + w .count)) r l) (walk (suc (l .rows - r)) taken) mid new v) →
-        Walked l whole old new (counted (w .rows) (1 + w .count) v)
+    pub second-side : l .row ≤ l .wanted → w .ending ≡ All → (new : List ℕ) (v : Walk) →
+        (let r = l .row + w .written in Walked (under p (l .left - (1 + w .count)) r l) (walk (suc (l .wanted - r)) taken) mid new v) →
+        Walked l whole old new (counted (w .written) (1 + w .count) v)
     second-side some-room all new v ev = go (v .ending) ev
       where
         a : EndsIn All (under p (l .left - 1) (l .row) l) first old mid w
         a = ends-as (w .ending) All all _ _ _ _ _ ew
 
         next : Level
-        next = under p (l .left - (1 + w .count)) (l .row + w .rows) l
+        next = under p (l .left - (1 + w .count)) (l .row + w .written) l
 
         second : Run Choice
         second = walk (suc (room next)) taken
@@ -168,7 +168,7 @@ module _ (l : Level) (p : ℕ) (walk : ℕ → State → Run Choice) (out taken 
         written =
             let all-of : take (length (first .found)) (choicesFound (first .found)) ≡ choicesFound (first .found) =
             ap (λ (k : ℕ). take k (choicesFound (first .found))) (sym (choices-length (first .found))) ∙ take-length (choicesFound (first .found)) in
-            let here : l .row + length (first .found) ≡ l .row + w .rows = omega (arith, a .1 .rows-is) in
+            let here : l .row + length (first .found) ≡ l .row + w .written = omega (arith, a .1 .rows-is) in
             rw (all-of, here) at (a .1 .bytes)
 
         rows : (m : ℕ) → l .row + (length (first .found) + m) ≡ next .row + m
@@ -180,7 +180,7 @@ module _ (l : Level) (p : ℕ) (walk : ℕ → State → Run Choice) (out taken 
             ap (λ (k : ℕ). take (k + m) (choicesFound (first .found) ++ choicesFound (second .found))) (sym (choices-length (first .found))) ∙
             take-append-add (choicesFound (first .found)) (choicesFound (second .found)) m
 
-        both : (m : ℕ) → Wrote next second mid new v m → Wrote l (split p first second) old new (counted (w .rows) (1 + w .count) v) (length (first .found) + m)
+        both : (m : ℕ) → Wrote next second mid new v m → Wrote l (split p first second) old new (counted (w .written) (1 + w .count) v) (length (first .found) + m)
         both m h = record {
           enough = omega (arith, a .1 .enough, a .1 .count, h .enough);
           count = omega (arith, a .1 .count, h .count);
@@ -188,18 +188,18 @@ module _ (l : Level) (p : ℕ) (walk : ℕ → State → Run Choice) (out taken 
           bytes = rw (chosen m, rows-append (choicesFound (first .found)) (take m (choicesFound (second .found))), rows m) (append-both written (h .bytes));
         }
 
-        go : (e : Ending) → EndsIn e next second mid new v → EndsIn e l whole old new (counted (w .rows) (1 + w .count) v)
+        go : (e : Ending) → EndsIn e next second mid new v → EndsIn e l whole old new (counted (w .written) (1 + w .count) v)
         go All h =
             let sum : length (first .found) + length (second .found) ≡ length (split p first second .found) = sym (split-length second) in
-            same-run whole-is All l old new (counted (w .rows) (1 + w .count) v)
+            same-run whole-is All l old new (counted (w .written) (1 + w .count) v)
             (omega (arith, split-length second, a .0, a .1 .rows-is, h .0), rw sum at (both (length (second .found)) (h .1)))
         go More h =
             let filled : length (first .found) + room next ≡ room l = omega (arith, a .0, a .1 .rows-is) in
-            same-run whole-is More l old new (counted (w .rows) (1 + w .count) v)
+            same-run whole-is More l old new (counted (w .written) (1 + w .count) v)
             (omega (arith, split-length second, h .0, a .0, a .1 .rows-is), rw filled at (both (room next) (h .1)))
-        go Stopped h = same-run whole-is Stopped l old new (counted (w .rows) (1 + w .count) v) (record {
+        go Stopped h = same-run whole-is Stopped l old new (counted (w .written) (1 + w .count) v) (record {
           short = omega (arith, h .short, a .1 .count);
           count = omega (arith, h .count, a .1 .count, a .1 .enough);
           few = omega (arith, h .few, a .0, a .1 .rows-is);
-          beyond = h .beyond ∙ appended-past (a .1 .bytes) (l .rows * l .variables) (mul-le-mul-right {m = l .row + length (first .found)} {n = l .rows} (l .variables) (omega (arith, a .0, some-room)));
+          beyond = h .beyond ∙ appended-past (a .1 .bytes) (l .wanted * l .variables) (mul-le-mul-right {m = l .row + length (first .found)} {n = l .wanted} (l .variables) (omega (arith, a .0, some-room)));
         })

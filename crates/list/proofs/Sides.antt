@@ -82,7 +82,7 @@ module _ {ix st wk : List ℕ} {p : ℕ} {l : Level} {bytes : List ℕ} (k : Spl
         omega (arith, ap var (sym now ∙ o .root), o .positive)
 
     -- a side may be walked, from a row that is left or past the last
-    pub side-walkable : (r : Bool) → Begun ix st x st′ wk′ r → (left row : ℕ) (bytes′ : List ℕ) → row ≤ l .rows → length bytes′ ≡ length bytes →
+    pub side-walkable : (r : Bool) → Begun ix st x st′ wk′ r → (left row : ℕ) (bytes′ : List ℕ) → row ≤ l .wanted → length bytes′ ≡ length bytes →
         Walkable ix st′ wk′ r (under p left row l) bytes′
     side-walkable r b left row bytes′ h e = record {
       lasting = record {

@@ -33,9 +33,9 @@ use Rattle.list.specs.declared.Walk.{Walk}
 -- a row may be written where one is left: there is room for all, and a number holds its index
 pub record Rowable (l : Level) (bytes : List ℕ) : Type 0 where
   pub small : l .variables ≤ maxVariables
-  pub next : l .row ≤ l .rows
-  pub fits : l .rows * l .variables ≤ length bytes
-  pub word : Fits w64 (l .rows * l .variables)
+  pub next : l .row ≤ l .wanted
+  pub fits : l .wanted * l .variables ≤ length bytes
+  pub word : Fits w64 (l .wanted * l .variables)
 
 -- what lasts through a walk
 pub record Lasting (ix : List ℕ) (l : Level) (bytes : List ℕ) : Type 0 where
@@ -78,15 +78,15 @@ pub record Splittable (ix st wk : List ℕ) (p : ℕ) (l : Level) (bytes : List 
 
 -- the level below a split on p
 abbrev pub under : ℕ → ℕ → ℕ → Level → Level
-under p left row l = record { variables = l .variables; from = p + 1; left = left; rows = l .rows; row = row }
+under p left row l = record { variables = l .variables; from = p + 1; left = left; wanted = l .wanted; row = row }
 
 -- so many rows and splits more
 abbrev pub counted : ℕ → ℕ → Walk → Walk
-counted rows splits w = record { ending = w .ending; rows = rows + w .rows; count = splits + w .count }
+counted rows splits w = record { ending = w .ending; written = rows + w .written; count = splits + w .count }
 
 -- the rows that are left; one layout more is wanted
 abbrev pub room : Level → ℕ
-room l = l .rows - l .row
+room l = l .wanted - l .row
 
 -- the runs of a walk: of a leaf, from a state, or from a dead end, and from a split on p
 abbrev pub leafRun : ℕ → State → Run Choice
@@ -106,15 +106,15 @@ splitRun p l f s = let n = l .variables in visit (tree (decideOpen n f) (suc n))
 pub record Wrote (l : Level) (r : Run Choice) (old new : List ℕ) (w : Walk) (rows : ℕ) : Type 0 where
   pub enough : r .splits ≤ l .left
   pub count : w .count ≡ r .splits
-  pub rows-is : w .rows ≡ rows
+  pub rows-is : w .written ≡ rows
   pub bytes : Appended old (l .row * l .variables) (rowBytes (take rows (choicesFound (r .found)))) new ((l .row + rows) * l .variables)
 
 -- "when a split is needed and the allowance is used up": what stands in the rows then is not said
 pub record Halted (l : Level) (r : Run Choice) (old new : List ℕ) (w : Walk) : Type 0 where
   pub short : l .left < r .splits
   pub count : w .count ≡ l .left
-  pub few : w .rows ≤ room l
-  pub beyond : drop (l .rows * l .variables) new ≡ drop (l .rows * l .variables) old
+  pub few : w .written ≤ room l
+  pub beyond : drop (l .wanted * l .variables) new ≡ drop (l .wanted * l .variables) old
 
 -- what a walk of the run has done, by how it ends
 abbrev pub EndsIn : Ending → Level → Run Choice → (old new : List ℕ) → Walk → Type 0
@@ -132,7 +132,7 @@ pub record Listable (n : ℕ) (t : List ℤ) (k : ℕ) (bytes : List ℕ) : Type
   pub word : Fits w64 (k * n)
 
 abbrev pub top : ℕ → ℕ → ℕ → Level
-top n k left = record { variables = n; from = 1; left = left; rows = k; row = 0 }
+top n k left = record { variables = n; from = 1; left = left; wanted = k; row = 0 }
 
 -- the rows that count of those that were written, by how the walk ends
 abbrev pub kept : Ending → ℕ → ℕ
@@ -141,7 +141,7 @@ kept ending.More rows = rows
 kept ending.Stopped rows = 0
 
 abbrev pub keptRows : Walk → ℕ
-keptRows w = kept (w .ending) (w .rows)
+keptRows w = kept (w .ending) (w .written)
 
 -- what is answered where so many rows count and so many splits were made
 abbrev pub endedAs : Ending → ℕ → ℕ → Listing

@@ -1,11 +1,9 @@
 // List: the layouts of a table in order, as many as rows are asked for (document 02, A6), by the tree that splits on the lowest open variable.
 ghost use mathlib.Core.Path.{_≡_};
-ghost use Prim.Native.Nat.{_+_, _*_, _≤_};
+ghost use Prim.Native.Nat.{_+_, _*_};
 ghost use lib.Dec.{ltb};
-ghost use lib.ListN.{length};
 ghost use mir.Syntax.{w32, w64};
 ghost use mir.Val.{Fits};
-ghost use Rattle.literal.specs.Literal.{maxVariables};
 ghost use Rattle.theory.specs.Listing.{openVariable, listTree};
 ghost use Rattle.theory.specs.Calls.{listCall};
 ghost use Rattle.occurrences.specs.Index.{formulaOf};
@@ -36,7 +34,7 @@ pub enum Ending {
 // How a walk of the tree ends, the rows that it writes, and the splits that it makes.
 pub struct Walk {
     pub ending: Ending,
-    pub rows: usize,
+    pub written: usize,
     pub count: u32,
 }
 
@@ -45,7 +43,7 @@ pub struct Level {
     pub variables: usize,
     pub from: usize,
     pub left: u32,
-    pub rows: usize,
+    pub wanted: usize,
     pub row: usize,
 }
 
@@ -67,17 +65,17 @@ fn write_row(level: Level, state: &Tally, rows: &mut [u8]) -> Walk
     requires { ⌜ Rowable level (now rows) ⌝ }
     ensures { λ r. ⌜ Walked level (leafRun (level .variables) (stateIn (now (state .entry)))) (now (rows .entry)) (now (rows .exit)) r ⌝ }
 {
-    if level.row == level.rows {
+    if level.row == level.wanted {
         return Walk {
             ending: Ending::More,
-            rows: 0,
+            written: 0,
             count: 0,
         };
     }
     side::write_choice(rows, level.row * level.variables, level.variables, state);
     Walk {
         ending: Ending::All,
-        rows: 1,
+        written: 1,
         count: 0,
     }
 }
@@ -90,7 +88,7 @@ fn below(level: Level, p: Variable, left: u32, row: usize) -> Level
         variables: level.variables,
         from: p.0 as usize + 1,
         left,
-        rows: level.rows,
+        wanted: level.wanted,
         row,
     }
 }
@@ -111,14 +109,14 @@ fn settle_and_decide(
     if dead {
         return Walk {
             ending: Ending::All,
-            rows: 0,
+            written: 0,
             count: 0,
         };
     }
     if engine::propagate(index, state, work) {
         return Walk {
             ending: Ending::All,
-            rows: 0,
+            written: 0,
             count: 0,
         };
     }
@@ -145,7 +143,7 @@ fn split(
     if level.left == 0 {
         return Walk {
             ending: Ending::Stopped,
-            rows: 0,
+            written: 0,
             count: 0,
         };
     }
@@ -171,22 +169,22 @@ fn split(
         &mut second,
         work,
         taken,
-        below(level, p, level.left - used, level.row + a.rows),
+        below(level, p, level.left - used, level.row + a.written),
         rows,
     );
-    through(b, a.rows, used)
+    through(b, a.written, used)
 }
 
 // A walk of one side, as a walk of the split: its rows and its splits come after those before it.
-fn through(side: Walk, rows: usize, splits: u32) -> Walk
-    requires { ⌜ Fits w64 (rows + side .rows) ⌝ }
+fn through(side: Walk, written: usize, splits: u32) -> Walk
+    requires { ⌜ Fits w64 (written + side .written) ⌝ }
     requires { ⌜ Fits w32 (splits + side .count) ⌝ }
-    ensures { λ r. ⌜ r ≡ counted rows splits side ⌝ }
+    ensures { λ r. ⌜ r ≡ counted written splits side ⌝ }
 {
     let ending = side.ending;
     Walk {
         ending,
-        rows: rows + side.rows,
+        written: written + side.written,
         count: splits + side.count,
     }
 }
@@ -204,7 +202,7 @@ fn walk_table(table: &[i16], n: usize, k: usize, allowance: u32, rows: &mut [u8]
         variables: n,
         from: 1,
         left: allowance,
-        rows: k,
+        wanted: k,
         row: 0,
     };
     settle_and_decide(&index.words, &mut state, &mut work, dead, level, rows)
@@ -223,8 +221,8 @@ fn kept_rows(walk: Walk) -> usize
 {
     let ending = walk.ending;
     match ending {
-        Ending::All => walk.rows,
-        Ending::More => walk.rows,
+        Ending::All => walk.written,
+        Ending::More => walk.written,
         Ending::Stopped => 0,
     }
 }
@@ -272,7 +270,7 @@ pub fn list(table: &[i16], n: usize, k: usize, allowance: u32, rows: &mut [u8]) 
         return Listing::Refused(Refusal::new(Fault::RowsShort, 0));
     }
     let walk = walk_table(table, n, k, allowance, rows);
-    let written = kept_rows(walk);
-    fill::clear_bytes(rows, written * n, (k - written) * n);
-    answer_of(walk, written)
+    let kept = kept_rows(walk);
+    fill::clear_bytes(rows, kept * n, (k - kept) * n);
+    answer_of(walk, kept)
 }

@@ -1,7 +1,6 @@
 // Search: the first layout of a table, by the split tree of document 01.
 ghost use mathlib.Core.Path.{_≡_};
-ghost use Prim.Native.Nat.{_+_, _*_, _-_, _≤_, _<_};
-ghost use lib.ListN.{length};
+ghost use Prim.Native.Nat.{_≤_};
 ghost use Rattle.literal.specs.Literal.{maxVariables};
 ghost use Rattle.theory.specs.Search.{branchVariable};
 ghost use Rattle.theory.specs.Calls.{searchCall};

@@ -174,14 +174,14 @@ first-walked t f =
 first-count : (t : ℕ) (f : FirstWalked t) → f .settle-and-decide .result .count + 1 ≤ origin t f .args .level .left
 first-count t f = omega (arith, walked-count (firstLevel t f) (firstRun t f) (now (origin t f .args .rows)) (rowsOne t f) (f .settle-and-decide .result) (first-walked t f), some-left t f .if1 .left)
 
-first-rows : (t : ℕ) (f : FirstWalked t) → let l = origin t f .args .level in l .row + f .settle-and-decide .result .rows ≤ l .rows
+first-rows : (t : ℕ) (f : FirstWalked t) → let l = origin t f .args .level in l .row + f .settle-and-decide .result .written ≤ l .wanted
 first-rows t f = omega (arith, walked-rows (firstLevel t f) (firstRun t f) (now (origin t f .args .rows)) (rowsOne t f) (f .settle-and-decide .result) (first-walked t f), origin t f .pre .1 .lasting .rowable .next)
 
 -- the numbers of a level fit their types
 left-fits : (t : ℕ) (f : FirstWalked t) → Fits w32 (origin t f .args .level .left)
 left-fits t f = some-left t f .before .struct-known .given .1 .1 .0
 
-rows-fit : (t : ℕ) (f : FirstWalked t) → Fits w64 (origin t f .args .level .rows)
+rows-fit : (t : ℕ) (f : FirstWalked t) → Fits w64 (origin t f .args .level .wanted)
 rows-fit t f = some-left t f .before .struct-known .given .1 .1 .1 .0
 
 second-is : (t : ℕ) (b : SecondBegun t) →
@@ -202,7 +202,7 @@ secondLevel t b =
     let f = earlier t b in
     let a = origin t f .args in
     let w = f .settle-and-decide .result in
-    under (a .p .0) (a .level .left - (1 + w .count)) (a .level .row + w .rows) (a .level)
+    under (a .p .0) (a .level .left - (1 + w .count)) (a .level .row + w .written) (a .level)
 
 abbrev secondRun : (t : ℕ) → SecondWalked t → Run Choice
 secondRun t b = let a = origin t (earlier t b) .args in treeRun (secondLevel t b) (formulaOf (now (a .index))) (takenOf t (earlier t b))
@@ -230,7 +230,7 @@ pub +settle-and-decide+split-spec : {M : Type 1} → statement M
     let d = rw (c .if2 .taken) at (p .propagate .ensures) in
     let a = e .before .before .args in
     let k = e .before .before .pre .1 .lasting in
-    (rw (e .if1 .left) (same-walked (died-run k (begun t e) (d .0)) (a .level) (now (a .rows)) (now (a .rows)) (record { ending = All; rows = 0; count = 0 }) (dead-walked (k .rowable))), d .1))
+    (rw (e .if1 .left) (same-walked (died-run k (begun t e) (d .0)) (a .level) (now (a .rows)) (now (a .rows)) (record { ending = All; written = 0; count = 0 }) (dead-walked (k .rowable))), d .1))
     (λ c κs.
     let r = c .before in
     let e = r .before .before .before .before in

@@ -13,17 +13,17 @@ use Rattle.side.proofs.write_choice.Reads as write-choice-reads
 
 -- the row lies within all that has room for the rows
 inside : (c : lts.After-struct-known2 (write-choice-reads.Asked, write-choice-reads.Learnt) reads.Pre reads.Post) →
-    let a = c .before .before .before .before .before .args in (m : ℕ) → a .level .rows * a .level .variables ≤ m → a .level .row * a .level .variables + a .level .variables ≤ m
+    let a = c .before .before .before .before .before .args in (m : ℕ) → a .level .wanted * a .level .variables ≤ m → a .level .row * a .level .variables + a .level .variables ≤ m
 inside c m h =
     let s = c .before .before .before .before .before in
-    row-fits (s .args .level .row) (s .args .level .rows) (s .args .level .variables) m (omega (arith, s .pre .next, c .before .before .if1 .left)) h
+    row-fits (s .args .level .row) (s .args .level .wanted) (s .args .level .variables) m (omega (arith, s .pre .next, c .before .before .if1 .left)) h
 
 pub write-row-spec : {M : Type 1} → statement M
 write-row-spec =
     tie.close
     (tie.spec
     (λ c. let s = c .before .before .before in leaf-more (s .pre) (stateIn (now (s .args .state))) (c .if1 .taken))
-    (λ c. let s = c .before .before .before .before .before in omega (arith, inside c (s .args .level .rows * s .args .level .variables) (omega arith), s .pre .word))
+    (λ c. let s = c .before .before .before .before .before in omega (arith, inside c (s .args .level .wanted * s .args .level .variables) (omega arith), s .pre .word))
     (λ c κs. let s = c .before .before .before .before .before in (omega (arith, inside c _ (s .pre .fits)), omega (arith, s .pre .small)))
     (λ c. search needs)
     (λ c. let s = c .before .before .before .before .before .before .before .before in leaf-row (s .pre) (stateIn (now (s .args .state))) (c .before .before .before .before .before .if1 .left) _ (c .before .before .write-choice .ensures)))
