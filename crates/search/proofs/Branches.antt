@@ -7,8 +7,7 @@ use Prim.Native.Nat.{ℕ, _+_, _*_, _≤_, _<_}
 use native.Mathlib.Decide.{ℕ-discrete}
 use native.Mathlib.Omega.{arith}
 use Rattle.literal.specs.declared.Literal.the-variants.{Pos}
-use Rattle.literal.specs.Literal.{var, codeOf}
-use Rattle.literal.proofs.Codes.{codeOf-literalAt}
+use Rattle.literal.specs.Literal.{var}
 use Rattle.theory.specs.Search.{branchVariable}
 use Rattle.theory.specs.State.{value, standing}
 use Rattle.theory.proofs.Clauses.{standing-mem, mem-standing}
@@ -17,10 +16,10 @@ use Rattle.theory.proofs.States.{fixed-pos, value-fixed}
 use Rattle.theory.proofs.Guard.{InWide, branch-from, branch-none}
 use Rattle.occurrences.specs.Index.{clauseOf, formulaOf}
 use Rattle.occurrences.proofs.Formulas.{mem-formula, formula-mem}
-use Rattle.state.proofs.Values.{stateOf-inside}
-use Rattle.tally.specs.Tally.{tallyOf, stateIn, valueIn}
+use Rattle.tally.specs.Tally.{stateIn, valueIn}
 use Rattle.gather.specs.Gathering.{AtRoot, StandsLive}
 use Rattle.side.proofs.Calm.{calm-closed, wider}
+use Rattle.side.proofs.Splitting.{open-code}
 use Rattle.search.specs.Branch.{Branching, BranchesOn, Branchable}
 
 module _ {ix st : List ℕ} {p : ℕ} (b : Branching ix st p) where
@@ -28,7 +27,7 @@ module _ {ix st : List ℕ} {p : ℕ} (b : Branching ix st p) where
   pub not-root : ¬ (valueIn st p ≡ 2 * p) → ¬ InWide (formulaOf ix) (stateIn st) p
   not-root n w =
       let e : stateIn st p ≡ Pos p = rw (w .stands-for) at (fixed-pos (stateIn st) (value (stateIn st) (w .written)) (value-fixed (b .well) (w .written))) in
-      n (sym (codeOf-literalAt (valueIn st p)) ∙ ap codeOf (sym (stateOf-inside (tallyOf st .values) p (b .inside)) ∙ e))
+      n (open-code st p (b .inside) e)
 
   pub stands-in : (r : Bool) → StandsLive ix st p r → BranchesOn ix st p r
   stands-in true k =

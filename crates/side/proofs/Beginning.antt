@@ -1,5 +1,5 @@
 -- The first step of a side of a split: from a state at rest an open literal becomes false.
-use mathlib.Core.Path.{_≡_, ap, _∙_}
+use mathlib.Core.Path.{_≡_, ap}
 use mathlib.Core.Bool.{Bool, true, false}
 use mathlib.Core.List.{List}
 use Prim.Native.Nat.{ℕ, _/_, _%_, _≤_, _<_}
@@ -7,16 +7,16 @@ use native.Mathlib.Decide.{ℕ-discrete}
 use native.Mathlib.Omega.{arith}
 use Rattle.literal.specs.declared.Literal.the-variants.{Pos}
 use Rattle.literal.specs.Literal.{FALSE, var, opposite, literalAt, maxVariables}
-use Rattle.literal.proofs.Codes.{var-at, literalAt-codeOf, at-even, at-odd}
+use Rattle.literal.proofs.Codes.{var-at, at-even, at-odd}
 use Rattle.theory.specs.State.{State}
 use Rattle.theory.proofs.States.{Fixed, Valid, assign-well, well-based, base-false}
-use Rattle.state.proofs.Values.{stateOf-inside}
-use Rattle.tally.specs.Tally.{tallyOf, stateIn}
+use Rattle.tally.specs.Tally.{stateIn}
 use Rattle.notes.specs.Notes.{notesOf, Whole}
 use Rattle.moves.specs.Sound.{Sound}
 use Rattle.moves.specs.Deciding.{Decidable, Decided}
 use Rattle.engine.proofs.Begins.{ready-decided}
 use Rattle.side.specs.Side.{Tallied, Siding, Begun}
+use Rattle.side.proofs.Splitting.{code-open}
 
 -- with nothing listed a state is sound
 pub tallied-sound : {ix st wk : List ℕ} → Tallied ix st → Whole wk → notesOf wk .todoEnd ≡ 0 → notesOf wk .rootsEnd ≡ 0 → Sound ix st wk
@@ -43,7 +43,7 @@ module _ {ix st wk : List ℕ} {x : ℕ} (k : Siding ix st wk x) where
   inside = omega (arith, var-at x, k .below)
 
   root : s (x / 2) ≡ Pos (x / 2)
-  root = stateOf-inside (tallyOf st .values) (x / 2) (omega (arith, k .below)) ∙ ap literalAt (k .root) ∙ literalAt-codeOf (Pos (x / 2))
+  root = code-open st (x / 2) (omega (arith, k .below)) (k .root)
 
   fixed : Fixed s (literalAt x)
   fixed = elim (ℕ-discrete (x % 2) 0) [

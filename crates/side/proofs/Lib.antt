@@ -1,3 +1,3 @@
 pub mod Calm
-pub mod Beginning
 pub mod Splitting
+pub mod Beginning
