@@ -1,3 +1,4 @@
 pub mod Refusals
 pub mod Unknown
+pub mod Growing
 pub mod Promises

@@ -1,13 +1,14 @@
 -- What a call of Add promises, by its receipt, the new used length and the buffer after it. All of it follows from the equation that `add` ensures.
 use mathlib.Core.Path.{_≡_, refl, ap, sym, subst, _∙_}
-use mathlib.Core.Bool.{false}
-use mathlib.Core.Logic.{⊎-elim, _↔_}
-use mathlib.Core.List.{List, [], _∷_, _++_, map, append-assoc, List·Memᴰ, List·Memᴰ·append-cases, List·Memᴰ·eq-of-singleton}
-use Prim.Native.Nat.{ℕ, _+_, _<_, zero-le}
+use mathlib.Core.Logic.{_↔_}
+use mathlib.Core.List.{List, [], _∷_, _++_, map}
+use Prim.Native.Nat.{ℕ, _+_}
 use native.Mathlib.Omega.{arith}
-use lib.IntN.{ℤ, natAbs, pos as posℤ}
-use lib.ListN.{length, take, drop, length-append}
-use lib.Seq.{length-take-le, take-at, drop-at}
+use borrow.Author.Tests.{ltb-true, ltb-false}
+use lib.Dec.{ltb}
+use lib.IntN.{ℤ, pos as posℤ}
+use lib.ListN.{length, take, drop}
+use Rattle.general.specs.Booleans.{cond-ind}
 use Rattle.literal.specs.Literal.{literalOf}
 use Rattle.receipt.specs.Receipt.{receipt}
 use Rattle.receipt.specs.Answers.{addingReceipt, addedLength}
@@ -17,13 +18,13 @@ use Rattle.receipt.specs.declared.Checked.{Checked}
 use Rattle.receipt.specs.declared.Checked.the-variants.{Passed, Refused}
 use Rattle.receipt.specs.declared.Refusal.{Refusal}
 use Rattle.receipt.proofs.Numbers.{not-refused}
-use Rattle.theory.specs.Calls.{AddCall, added, addCall}
+use Rattle.theory.specs.Calls.{AddCall, added, addKnown, addCall}
 use Rattle.theory.specs.Formula.{clauses}
-use Rattle.theory.specs.Table.{zeros, nonzeros, endsOpen, WithinLimits}
+use Rattle.theory.specs.Table.{WithinLimits}
 use Rattle.theory.specs.Unknown.{UnknownInAdd, Names}
-use Rattle.theory.proofs.Tables.{zeros-append, nonzeros-append, length-elements, endsOpen-append, closed-ends, accepted-exactly, accepted-closed, clauses-append, clauses-one, no-zeros}
-use Rattle.add.specs.Add.{checkAdded, called}
+use Rattle.add.specs.Add.{checkGroup, called}
 use Rattle.add.specs.Addable.{Addable}
+use Rattle.add.proofs.Growing.{grown-limits, grown-clauses, added-table, added-before, added-list, added-after}
 use Rattle.add.proofs.Refusals.{unlessRefused, call-checked, checked-exactly}
 use Rattle.add.proofs.Unknown.{call-names}
 
@@ -57,56 +58,15 @@ abbrev By : ℕ → ℕ → List ℤ → List ℤ → AddCall → Type 0
 By u n g b s = Way u n g b (s .answer) (s .buffer)
 
 way : {u n : ℕ} {g b : List ℤ} {r : Adding} {b′ : List ℤ} → Call u n g b r b′ → Way u n g b r b′
-way {u} {n} {g} {b} c = subst (By u n g b) (sym (c .is ∙ call-checked b u n g)) (go (checkAdded u n g b) refl)
+way {u} {n} {g} {b} c = subst (By u n g b) (sym (c .is ∙ call-checked b u n g)) (go (checkGroup u n g b) refl)
   where
-    go : (k : Checked) → checkAdded u n g b ≡ k → By u n g b (unlessRefused b k (called (adding.Added (u + length g + 1)) (added u g b)))
-    go (Refused w) e = refused w (λ h. let z : _≡_ {A = ℕ} 0 1 = cc (checked-exactly u n g b .1 h) in omega arith)
-    go Passed e = stored (checked-exactly u n g b .0 e)
-
--- the used part with the list and its 0 --------------------------------------------------------------------------------
-
-module _ {u n : ℕ} {g b : List ℤ} (a : Addable u n g b) where
-  abbrev used : List ℤ
-  used = take u b
-
-  abbrev group : List ℤ
-  group = g ++ (posℤ 0 ∷ [])
-
-  group-long : length group ≡ length g + 1
-  group-long = length-append g _
-
-  used-long : length used ≡ u
-  used-long = length-take-le u b (a .used)
-
-  whole : added u g b ≡ (used ++ group) ++ drop (u + length g + 1) b
-  whole = rw (append-assoc used group, append-assoc g)
-
-  long : length (used ++ group) ≡ u + length g + 1
-  long = omega (arith, length-append used group, used-long, group-long)
-
-  table-is : take (u + length g + 1) (added u g b) ≡ used ++ group
-  table-is = rw whole (take-at (used ++ group) _ _ long)
-
-  entries : (e : ℤ) → List·Memᴰ e g → 0 < natAbs e
-  entries e m = a .known e m .0
-
-  grown-limits : WithinLimits n (used ++ group)
-  unfolding zeros nonzeros endsOpen
-  grown-limits = record {
-    variables = a .within .variables;
-    clauses = omega (arith, zeros-append used group, zeros-append g (posℤ 0 ∷ []), no-zeros g entries, a .clauses);
-    literals = omega (arith, nonzeros-append used group, nonzeros-append g (posℤ 0 ∷ []), length-elements g, no-zeros g entries, a .literals);
-    ends = closed-ends (used ++ group) (endsOpen-append false used group ∙ endsOpen-append (endsOpen false used) g (posℤ 0 ∷ []));
-    known = λ e m. ⊎-elim (a .within .known e) (λ k. ⊎-elim
-        (λ j. a .known e j .1)
-        (λ j. let q : e ≡ posℤ 0 = List·Memᴰ·eq-of-singleton j in rw q zero-le)
-        (List·Memᴰ·append-cases g k)) (List·Memᴰ·append-cases used m);
-  }
-
-  grown-clauses : clauses (used ++ group) ≡ clauses used ++ (map literalOf g ∷ [])
-  grown-clauses =
-      clauses-append false used group (accepted-closed n used (accepted-exactly n used .1 (a .within)))
-      ∙ ap (_++_ (clauses used)) (clauses-one g entries)
+    go : (k : Checked) → checkGroup u n g b ≡ k → By u n g b (unlessRefused b k (addKnown Passed u g b))
+    go (Refused w) e = refused w (λ h. let z : _≡_ {A = ℕ} 0 1 = cc (checked-exactly u n g b .1 (h .used, h .follows)) in omega arith)
+    go Passed e =
+        let a = checked-exactly u n g b .0 e in
+        cond-ind (By u n g b) _ _ (ltb (length b) (u + length g + 1))
+        (λ k. refused _ (λ h. omega (arith, h .room, ltb-true (length b) (u + length g + 1) k)))
+        (λ k. stored (record { used = a .0; follows = a .1; room = ltb-false (length b) (u + length g + 1) k }))
 
 -- the promises ---------------------------------------------------------------------------------------------------------
 
@@ -146,9 +106,9 @@ module _ {u n : ℕ} {g b : List ℤ} {r : Adding} {b′ : List ℤ} (c : Call u
       go : {r : Adding} {b′ : List ℤ} → Way u n g b r b′ → numberOf r ≡ 15 → Stored u n g b b′ (addedLength r)
       go (refused w h) q = absurd (not-refused (w .fault) 15 refl q)
       go (stored a) q = record {
-        before = take-at (take u b) _ u (used-long a);
-        list = rw (table-is a) (drop-at (take u b) _ u (used-long a));
-        after = rw (whole a) (drop-at (take u b ++ group a) _ _ (long a));
-        limits = rw (table-is a) (grown-limits a);
-        groups = rw (table-is a) (grown-clauses a);
+        before = added-before u g b (a .used);
+        list = added-list u g b (a .used);
+        after = added-after u g b (a .used);
+        limits = rw (added-table u g b (a .used)) (grown-limits (a .follows));
+        groups = rw (added-table u g b (a .used)) (grown-clauses (a .follows));
       }

@@ -1,4 +1,4 @@
--- What Add asks before it writes: the first wrong element of the list, the checks in their order, and the room that they leave.
+-- What Add asks before it writes: the first wrong element of the list, and the checks in their order.
 use mathlib.Core.Option.{Option, none, some}
 use Prim.Native.Nat.{ℕ, zero, suc, _+_, _≤_, _<_}
 use mathlib.Core.Path.{_≡_, refl, ap}
@@ -19,7 +19,7 @@ use Rattle.literal.specs.Literal.{maxClauses, maxLiterals}
 use Rattle.receipt.specs.Receipt.{unknownVariable, refusal}
 use Rattle.receipt.specs.declared.Adding.the-variants.{Added}
 use Rattle.receipt.specs.declared.Fault.{Fault}
-use Rattle.receipt.specs.declared.Fault.the-variants.{TooManyClauses, TooManyLiterals, UsedLengthWrong, TableShort}
+use Rattle.receipt.specs.declared.Fault.the-variants.{TooManyClauses, TooManyLiterals, UsedLengthWrong}
 use Rattle.receipt.specs.declared.Checked.{Checked}
 use Rattle.receipt.specs.declared.Checked.the-variants.{Passed, Refused}
 use Rattle.theory.specs.Table.{zeros, nonzeros, refused, check}
@@ -27,8 +27,8 @@ use Rattle.theory.specs.Calls.{AddCall, addRefused, isWrong, listUnknown, unkno
 use Rattle.theory.proofs.Tables.{past, known-variable, accepted-sizes, accepted-exactly}
 use Rattle.table.specs.Pass.{begin, enoughClauses, clauseNext, after}
 use Rattle.table.proofs.Passes.{clauses-exact, literals-exact}
-use Rattle.add.specs.Addable.{Addable}
-use Rattle.add.specs.Add.{known, firstRefusal, atMost, checkAdded, called}
+use Rattle.add.specs.Addable.{Follows}
+use Rattle.add.specs.Add.{known, firstRefusal, atMost, checkGroup, called}
 
 -- the test of the definition is the opposite of the code's
 wrong-known : (n k : ℕ) → (eqb k 0 || ltb n k) ≡ not (known n k)
@@ -78,15 +78,15 @@ module _ (b : List ℤ) where
   checked-then (Refused r) u n g = refl
   checked-then Passed u n g = refl
 
-  -- the order of the definition is that of the checks
-  pub call-checked : (u n : ℕ) (g : List ℤ) → addCall u n g b ≡ unlessRefused b (checkAdded u n g b) (called (Added (u + length g + 1)) (added u g b))
-  unfolding addCall checkAdded
+  -- the order of the definition is that of the checks, and then that of the room
+  pub call-checked : (u n : ℕ) (g : List ℤ) → addCall u n g b ≡ unlessRefused b (checkGroup u n g b) (addKnown Passed u g b)
+  unfolding addCall checkGroup
   call-checked u n g = simp (first-then, limit-then) (rw (checked-then (check n (take u b)) u n g, known-then (unknownIn u (zeros (take u b) + 1) n g) u g))
 
 -- the checks after that of the used part t, which ask only where it passes, by the counts of the state after it
-module _ (u n : ℕ) (g t : List ℤ) (d : Checked) where
+module _ (u n : ℕ) (g t : List ℤ) where
   abbrev byCounts : ℕ → ℕ → ℕ → Checked
-  byCounts z y k = firstRefusal (firstRefusal (atMost (z + 1) maxClauses TooManyClauses) (atMost (y + length g) maxLiterals TooManyLiterals)) (firstRefusal (unknownIn u k n g) d)
+  byCounts z y k = firstRefusal (firstRefusal (atMost (z + 1) maxClauses TooManyClauses) (atMost (y + length g) maxLiterals TooManyLiterals)) (unknownIn u k n g)
 
   pub counts-exact : let s = after (begin n) t in
       firstRefusal (check n t) (byCounts (s .clauses) (s .literals) (clauseNext s .0)) ≡ firstRefusal (check n t) (byCounts (zeros t) (nonzeros t) (zeros t + 1))
@@ -100,7 +100,7 @@ module _ (u n : ℕ) (g t : List ℤ) (d : Checked) where
           let z : zeros t < enoughClauses = omega (arith, accepted-sizes n t e .clauses) in
           rw (clauses-exact n t e, literals-exact n t e, lt-ltb (zeros t) enoughClauses z)
 
--- all checks pass exactly when the list may be added ----------------------------------------------------------------
+-- all checks pass exactly when the list may follow the used part --------------------------------------------------
 
 first-passed : (c d : Checked) → (firstRefusal c d ≡ Passed) ↔ ((c ≡ Passed) × (d ≡ Passed))
 first-passed (Refused r) d = (λ e. absurd (let z : _≡_ {A = ℕ} 0 1 = cc in omega arith), λ e. absurd (let z : _≡_ {A = ℕ} 0 1 = cc (e .0) in omega arith))
@@ -131,29 +131,32 @@ module _ (u n : ℕ) (g b : List ℤ) where
   abbrev literals-check : Checked
   literals-check = atMost (nonzeros t + length g) maxLiterals TooManyLiterals
 
-  pub checked-exactly : (checkAdded u n g b ≡ Passed) ↔ Addable u n g b
-  unfolding checkAdded
+  pub checked-exactly : (checkGroup u n g b ≡ Passed) ↔ ((u ≤ length b) × Follows n t g)
+  unfolding checkGroup
   checked-exactly = (
     λ e.
         let x = first-passed (atMost u (length b) UsedLengthWrong) _ .0 e in
         let y = first-passed (check n t) _ .0 (x .1) in
         let z = first-passed (firstRefusal clauses-check literals-check) _ .0 (y .1) in
-        let l = first-passed clauses-check literals-check .0 (z .0) in
-        let w = first-passed (unknownIn u (zeros t + 1) n g) _ .0 (z .1) in
-        record {
-          used = most-passed u (length b) UsedLengthWrong .0 (x .0);
-          within = accepted-exactly n t .0 (y .0);
-          clauses = most-passed _ _ TooManyClauses .0 (l .0);
-          literals = most-passed _ _ TooManyLiterals .0 (l .1);
-          known = list-passed u (zeros t + 1) n g (w .0);
-          room = most-passed _ _ TableShort .0 (w .1);
-        },
-    λ a. rw (
-      most-passed u (length b) UsedLengthWrong .1 (a .used),
+        let l = first-passed clauses-check literals-check .0 (z .0) in (
+          most-passed u (length b) UsedLengthWrong .0 (x .0),
+          record {
+            within = accepted-exactly n t .0 (y .0);
+            clauses = most-passed _ _ TooManyClauses .0 (l .0);
+            literals = most-passed _ _ TooManyLiterals .0 (l .1);
+            known = list-passed u (zeros t + 1) n g (z .1);
+          },
+        ),
+    λ (h, a). rw (
+      most-passed u (length b) UsedLengthWrong .1 h,
       accepted-exactly n t .1 (a .within),
       most-passed (zeros t + 1) maxClauses TooManyClauses .1 (a .clauses),
       most-passed (nonzeros t + length g) maxLiterals TooManyLiterals .1 (a .literals),
       passed-list u (zeros t + 1) n g (a .known),
-      most-passed (u + length g + 1) (length b) TableShort .1 (a .room),
     ),
   )
+
+-- the checks look at the used part alone, whatever room is after it
+pub checked-alike : (u n : ℕ) (g b c : List ℤ) → u ≤ length b → u ≤ length c → take u b ≡ take u c → checkGroup u n g b ≡ checkGroup u n g c
+unfolding checkGroup
+checked-alike u n g b c h k e = rw (le-ltb (length b) u h, le-ltb (length c) u k, e)

@@ -8,7 +8,7 @@ use lib.ListN.{length, take}
 use Rattle.literal.specs.Literal.{maxClauses, maxLiterals}
 use Rattle.receipt.specs.declared.Adding.{Adding}
 use Rattle.receipt.specs.declared.Fault.{Fault}
-use Rattle.receipt.specs.declared.Fault.the-variants.{TooManyClauses, TooManyLiterals, UsedLengthWrong, TableShort}
+use Rattle.receipt.specs.declared.Fault.the-variants.{TooManyClauses, TooManyLiterals, UsedLengthWrong}
 use Rattle.receipt.specs.declared.Checked.{Checked}
 use Rattle.receipt.specs.declared.Checked.the-variants.{Passed, Refused}
 use Rattle.theory.specs.Table.{zeros, nonzeros, refused, check}
@@ -27,13 +27,13 @@ firstRefusal (Refused r) c = Refused r
 abbrev pub atMost : ℕ → ℕ → Fault → Checked
 atMost count limit why = cond (ltb limit count) (refused why 0) Passed
 
--- "Add: 12, then 1 to 5 on the used part, 2 and 3 with the group added, 5 on the list, 23"
-unfoldable pub checkAdded : ℕ → ℕ → List ℤ → List ℤ → Checked
-checkAdded u n g b =
+-- "Add: 12, then 1 to 5 on the used part, 2 and 3 with the group added, 5 on the list": all but the room
+unfoldable pub checkGroup : ℕ → ℕ → List ℤ → List ℤ → Checked
+checkGroup u n g b =
     firstRefusal (atMost u (length b) UsedLengthWrong)
     (firstRefusal (check n (take u b))
     (firstRefusal (firstRefusal (atMost (zeros (take u b) + 1) maxClauses TooManyClauses) (atMost (nonzeros (take u b) + length g) maxLiterals TooManyLiterals))
-    (firstRefusal (unknownIn u (zeros (take u b) + 1) n g) (atMost (u + length g + 1) (length b) TableShort))))
+    (unknownIn u (zeros (take u b) + 1) n g)))
 
 abbrev pub called : Adding → List ℤ → AddCall
 called r b = record { answer = r; buffer = b }

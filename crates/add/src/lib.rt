@@ -3,12 +3,13 @@ ghost use mathlib.Core.Path.{_≡_};
 ghost use Prim.Native.Nat.{_+_, _^_, _<_};
 ghost use lib.ListN.{length};
 ghost use Rattle.theory.specs.Calls.{unknownIn, added, addCall};
-ghost use Rattle.add.specs.Add.{known, firstRefusal, atMost, checkAdded, called};
+ghost use Rattle.add.specs.Add.{known, firstRefusal, atMost, checkGroup, called};
 use literal::ClauseNumber;
 use literal::Literal;
 use receipt::Adding;
 use receipt::Checked;
 use receipt::Fault;
+use receipt::Refusal;
 use table::Pass;
 
 // Whether an element of the list, by its size, is an entry of a placement from 1 to n. A zero isn't.
@@ -52,9 +53,9 @@ fn first_refusal(first: Checked, second: Checked) -> Checked
     }
 }
 
-// "Add: 12, then 1 to 5 on the used part, 2 and 3 with the group added, 5 on the list, 23".
-fn check_added(buffer: &[i16], used: usize, n: usize, group: &[i16]) -> Checked
-    ensures { λ r. ⌜ r ≡ checkAdded used n (now (group .entry)) (now (buffer .entry)) ⌝ }
+// "Add: 12, then 1 to 5 on the used part, 2 and 3 with the group added, 5 on the list": all but the room.
+pub fn check_group(buffer: &[i16], used: usize, n: usize, group: &[i16]) -> Checked
+    ensures { λ r. ⌜ r ≡ checkGroup used n (now (group .entry)) (now (buffer .entry)) ⌝ }
 {
     if buffer.len() < used {
         return table::refused(Fault::UsedLengthWrong, 0);
@@ -74,21 +75,17 @@ fn check_added(buffer: &[i16], used: usize, n: usize, group: &[i16]) -> Checked
         Fault::TooManyLiterals,
     );
     let unknown = unknown_in(used, pass.clause_next(), n, group);
-    let room = at_most(used + count + 1, buffer.len(), Fault::TableShort);
     let limits = first_refusal(clauses, literals);
-    let list = first_refusal(unknown, room);
-    first_refusal(used_part, first_refusal(limits, list))
+    first_refusal(used_part, first_refusal(limits, unknown))
 }
 
 // "The list and a closing 0 are stored at u".
-fn store(buffer: &mut [i16], used: usize, group: &[i16])
+pub fn store(buffer: &mut [i16], used: usize, group: &[i16])
     requires { ⌜ used + length (now group) < length (now buffer) ⌝ }
     ensures { λ _. ⌜ now (buffer .exit) ≡ added used (now (group .entry)) (now (buffer .entry)) ⌝ }
 {
     let count = group.len();
-    for i in 0..count {
-        buffer[used + i] = group[i];
-    }
+    fill::copy_numbers(buffer, used, group, count);
     buffer[used + count] = 0;
 }
 
@@ -96,12 +93,17 @@ fn store(buffer: &mut [i16], used: usize, group: &[i16])
 pub fn add(buffer: &mut [i16], used: usize, n: usize, group: &[i16]) -> Adding
     ensures { λ r. ⌜ called r (now (buffer .exit)) ≡ addCall used n (now (group .entry)) (now (buffer .entry)) ⌝ }
 {
-    let checked = check_added(buffer, used, n, group);
+    let checked = check_group(buffer, used, n, group);
     match checked {
         Checked::Refused(refusal) => Adding::Refused(refusal),
         Checked::Passed => {
+            let room = buffer.len();
+            let length = used + group.len() + 1;
+            if room < length {
+                return Adding::Refused(Refusal::new(Fault::TableShort, 0));
+            }
             store(buffer, used, group);
-            Adding::Added(used + group.len() + 1)
+            Adding::Added(length)
         }
     }
 }

@@ -38,9 +38,9 @@ module _ {A : Type 0} (n : ℕ) (new old : List A) (size : length new ≡ n) (l 
   written-front h = rw zero-add at (written 0 n new old size l i w h)
 
 -- one value throughout
-module _ {A : Type 0} (a : A) (n : ℕ) (old l : List A) (i : ℕ) (w : Writing 0 n (replicate n a) old l i) where
-  pub turned-filling : n ≤ length old → i < n → Writing 0 n (replicate n a) old (set l i a) (i + 1)
-  turned-filling room h = turned-front n (replicate n a) old (length-replicate n a) l i w room h a a (sym (getD-replicate n i a a h))
+module _ {A : Type 0} (a : A) (at n : ℕ) (old l : List A) (i : ℕ) (w : Writing at n (replicate n a) old l i) where
+  pub turned-filling : at + n ≤ length old → i < n → Writing at n (replicate n a) old (set l (at + i) a) (i + 1)
+  turned-filling room h = turned at n (replicate n a) old (length-replicate n a) l i w room h a a (sym (getD-replicate n i a a h))
 
-  pub filled : n ≤ i → l ≡ replicate n a ++ drop n old
-  filled h = written-front n (replicate n a) old (length-replicate n a) l i w h
+  pub filled : n ≤ i → l ≡ take at old ++ (replicate n a ++ drop (at + n) old)
+  filled h = written at n (replicate n a) old (length-replicate n a) l i w h

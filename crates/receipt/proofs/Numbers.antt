@@ -6,7 +6,7 @@ use lib.Dec.{eqb}
 use Rattle.literal.specs.declared.ClauseNumber.{ClauseNumber}
 use Rattle.literal.specs.Literal.{clauseNumber}
 use Rattle.receipt.specs.declared.Fault.{Fault}
-use Rattle.receipt.specs.declared.Fault.the-variants.{TooManyVariables, TooManyClauses, TooManyLiterals, OpenClause, UnknownVariable, PlanShort, TrailShort, HeadsShort, ReceiptShort, UsedLengthWrong, StateShort, UnknownMark, CutStrip, OutOfTurn, TableShort, StripTooLong, StripShort, UnmentionedVariable, ReasonsShort, RowsShort}
+use Rattle.receipt.specs.declared.Fault.the-variants.{TooManyVariables, TooManyClauses, TooManyLiterals, OpenClause, UnknownVariable, PlanShort, TrailShort, HeadsShort, ReceiptShort, UsedLengthWrong, StateShort, UnknownMark, CutStrip, OutOfTurn, TableShort, StripTooLong, StripShort, UnmentionedVariable, ReasonsShort, RowsShort, NoClause}
 use Rattle.receipt.specs.declared.Outcome.{Outcome}
 use Rattle.receipt.specs.declared.Outcome.the-variants.{LaidOut, NoLayout, Stopped}
 use Rattle.receipt.specs.declared.Refusal.{Refusal}
@@ -36,6 +36,7 @@ refuses StripShort = refl
 refuses UnmentionedVariable = refl
 refuses ReasonsShort = refl
 refuses RowsShort = refl
+refuses NoClause = refl
 
 -- so a call with the number k of an answer wasn't refused
 pub not-refused : (why : Fault) (k : ℕ) → answers k ≡ true → ¬ (numberOf why ≡ k)
@@ -68,6 +69,7 @@ others-none StripShort h = refl
 others-none UnmentionedVariable h = refl
 others-none ReasonsShort h = refl
 others-none RowsShort h = refl
+others-none NoClause h = refl
 
 -- "for all other numbers it is 0"
 pub names-none : (r : Refusal) → ¬ (refusedReceipt r .number ≡ 5) → refusedReceipt r .clause ≡ clauseNumber 0

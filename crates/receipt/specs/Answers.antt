@@ -11,6 +11,8 @@ use Rattle.receipt.specs.declared.Indexing.{Indexing}
 use Rattle.receipt.specs.declared.Indexing.the-variants as indexing
 use Rattle.receipt.specs.declared.Adding.{Adding}
 use Rattle.receipt.specs.declared.Adding.the-variants as adding
+use Rattle.receipt.specs.declared.TakingBack.{TakingBack}
+use Rattle.receipt.specs.declared.TakingBack.the-variants as taking-back
 use Rattle.receipt.specs.declared.Reading.{Reading}
 use Rattle.receipt.specs.declared.Reading.the-variants as reading
 use Rattle.receipt.specs.declared.Saving.{Saving}
@@ -50,6 +52,16 @@ addingReceipt (adding.Refused r) = refusedReceipt r
 abbrev pub addedLength : Adding → ℕ
 addedLength (adding.Added u) = u
 addedLength (adding.Refused r) = 0
+
+-- Taking back (document 02, A7): 18 done
+abbrev pub takingBackReceipt : TakingBack → Receipt
+takingBackReceipt (taking-back.TakenBack u) = receipt done 0 0
+takingBackReceipt (taking-back.Refused r) = refusedReceipt r
+
+-- "the new used length is the answer, 0 on refusal"
+abbrev pub lengthLeft : TakingBack → ℕ
+lengthLeft (taking-back.TakenBack u) = u
+lengthLeft (taking-back.Refused r) = 0
 
 -- Read: 16 strip read
 abbrev pub readingReceipt : Reading → Receipt

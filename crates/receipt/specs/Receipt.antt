@@ -3,7 +3,7 @@ use Prim.Native.Nat.{ℕ}
 use Rattle.literal.specs.declared.ClauseNumber.{ClauseNumber}
 use Rattle.literal.specs.Literal.{clauseNumber}
 use Rattle.receipt.specs.declared.Fault.{Fault}
-use Rattle.receipt.specs.declared.Fault.the-variants.{TooManyVariables, TooManyClauses, TooManyLiterals, OpenClause, UnknownVariable, PlanShort, TrailShort, HeadsShort, ReceiptShort, UsedLengthWrong, StateShort, UnknownMark, CutStrip, OutOfTurn, TableShort, StripTooLong, StripShort, UnmentionedVariable, ReasonsShort, RowsShort}
+use Rattle.receipt.specs.declared.Fault.the-variants.{TooManyVariables, TooManyClauses, TooManyLiterals, OpenClause, UnknownVariable, PlanShort, TrailShort, HeadsShort, ReceiptShort, UsedLengthWrong, StateShort, UnknownMark, CutStrip, OutOfTurn, TableShort, StripTooLong, StripShort, UnmentionedVariable, ReasonsShort, RowsShort, NoClause}
 use Rattle.receipt.specs.declared.Outcome.{Outcome}
 use Rattle.receipt.specs.declared.Outcome.the-variants.{LaidOut, NoLayout, Stopped}
 use Rattle.receipt.specs.declared.Refusal.{Refusal}
@@ -50,6 +50,8 @@ numberOf UnmentionedVariable = 26
 numberOf ReasonsShort = 19
 -- row room short
 numberOf RowsShort = 27
+-- nothing to take back
+numberOf NoClause = 28
 
 -- the group that a fault names: "for all other numbers it is 0" (document 02, A2)
 abbrev pub namedClause : Fault → ClauseNumber
@@ -73,6 +75,7 @@ namedClause StripShort = clauseNumber 0
 namedClause UnmentionedVariable = clauseNumber 0
 namedClause ReasonsShort = clauseNumber 0
 namedClause RowsShort = clauseNumber 0
+namedClause NoClause = clauseNumber 0
 
 -- how a search ends: laid out, no layout, stopped
 abbrev pub outcomeNumber : Outcome → ℕ

@@ -1,7 +1,7 @@
 // What an operation answers, by cases, and what each answer puts on the receipt.
 ghost use mathlib.Core.Path.{_≡_};
 ghost use Rattle.receipt.specs.Receipt.{numberOf, namedClause, outcomeNumber, refusal, receipt, refusedReceipt};
-ghost use Rattle.receipt.specs.Answers.{checkedReceipt, settlingReceipt, searchingReceipt, indexingReceipt, addingReceipt, addedLength, readingReceipt, readVariables, readLength, savingReceipt, listingReceipt, saysMore};
+ghost use Rattle.receipt.specs.Answers.{checkedReceipt, settlingReceipt, searchingReceipt, indexingReceipt, addingReceipt, addedLength, takingBackReceipt, lengthLeft, readingReceipt, readVariables, readLength, savingReceipt, listingReceipt, saysMore};
 use literal::ClauseNumber;
 
 // Why a call is refused: the rows of document 01's table of numbers that refuse, in its order, then those of document 02.
@@ -27,6 +27,7 @@ pub enum Fault {
     UnmentionedVariable,
     ReasonsShort,
     RowsShort,
+    NoClause,
 }
 
 impl Fault {
@@ -56,6 +57,7 @@ impl Fault {
             Fault::UnmentionedVariable => 26,
             Fault::ReasonsShort => 19,
             Fault::RowsShort => 27,
+            Fault::NoClause => 28,
         }
     }
 
@@ -243,6 +245,35 @@ impl Adding {
         match answer {
             Adding::Added(used) => used,
             Adding::Refused(_) => 0,
+        }
+    }
+}
+
+// Taking back: the new used length.
+pub enum TakingBack {
+    TakenBack(usize),
+    Refused(Refusal),
+}
+
+impl TakingBack {
+    pub fn receipt(self) -> Receipt
+        ensures { λ r. ⌜ r ≡ takingBackReceipt self ⌝ }
+    {
+        let answer = self;
+        match answer {
+            TakingBack::TakenBack(_) => plain(DONE, 0, 0),
+            TakingBack::Refused(refusal) => refusal.receipt(),
+        }
+    }
+
+    // "0 on refusal", and where the only group is taken back: the number tells which.
+    pub fn used(self) -> usize
+        ensures { λ r. ⌜ r ≡ lengthLeft self ⌝ }
+    {
+        let answer = self;
+        match answer {
+            TakingBack::TakenBack(used) => used,
+            TakingBack::Refused(_) => 0,
         }
     }
 }

@@ -228,7 +228,7 @@ pub fn search(
         return Searching::Refused(Refusal::new(Fault::TrailShort, 0));
     }
     fill::clear_bytes(plan, 0, n);
-    fill::clear_numbers(trail, n);
+    fill::clear_numbers(trail, 0, n);
     let walk = walk_table(table, n, allowance, plan, trail);
     let outcome = walk.outcome;
     let count = walk.count;

@@ -5,6 +5,7 @@ ghost use lib.ListN.{length};
 ghost use Rattle.general.specs.Lists.{upTo};
 ghost use Rattle.literal.specs.Literal.{var, maxVariables};
 ghost use Rattle.theory.specs.Calls.{over, stateEntry, settleCall};
+ghost use Rattle.theory.specs.Table.{Accepted};
 ghost use Rattle.state.specs.State.{stateOf, InRange};
 ghost use Rattle.propagate.specs.Code.{reasonsOf};
 ghost use Rattle.settle.specs.Settle.{called};
@@ -58,16 +59,11 @@ fn write_reasons(lent: &mut [u16], n: usize, reasons: &[u16; Literal::VARIABLES]
     }
 }
 
-pub fn settle(table: &[i16], n: usize, list: &mut [i16], reasons: &mut [u16]) -> Settling
+// Settle of a table that is known to be within the limits.
+pub fn settle_accepted(table: &[i16], n: usize, list: &mut [i16], reasons: &mut [u16]) -> Settling
+    requires { ⌜ Accepted n (now table) ⌝ }
     ensures { λ r. ⌜ called r (now (list .exit)) (now (reasons .exit)) ≡ settleCall n (now (table .entry)) (now (list .entry)) (now (reasons .entry)) ⌝ }
 {
-    let checked = table::check_table(table, n);
-    match checked {
-        Checked::Refused(refusal) => {
-            return Settling::Refused(refusal);
-        }
-        Checked::Passed => {}
-    }
     if list.len() < n {
         return Settling::Refused(Refusal::new(Fault::StateShort, 0));
     }
@@ -76,8 +72,8 @@ pub fn settle(table: &[i16], n: usize, list: &mut [i16], reasons: &mut [u16]) ->
     }
     let settled = propagate::propagate(table, n, state::initial());
     if settled.dead {
-        fill::clear_numbers(list, n);
-        fill::clear_reasons(reasons, n);
+        fill::clear_numbers(list, 0, n);
+        fill::clear_reasons(reasons, 0, n);
         return Settling::NoLayout;
     }
     let state = settled.state;
@@ -85,4 +81,14 @@ pub fn settle(table: &[i16], n: usize, list: &mut [i16], reasons: &mut [u16]) ->
     let given = settled.reasons;
     write_reasons(reasons, n, &given);
     Settling::Settled
+}
+
+pub fn settle(table: &[i16], n: usize, list: &mut [i16], reasons: &mut [u16]) -> Settling
+    ensures { λ r. ⌜ called r (now (list .exit)) (now (reasons .exit)) ≡ settleCall n (now (table .entry)) (now (list .entry)) (now (reasons .entry)) ⌝ }
+{
+    let checked = table::check_table(table, n);
+    match checked {
+        Checked::Refused(refusal) => Settling::Refused(refusal),
+        Checked::Passed => settle_accepted(table, n, list, reasons),
+    }
 }

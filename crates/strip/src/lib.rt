@@ -211,17 +211,6 @@ pub fn decode(strip: &[u8], room: usize) -> Decoded
     }
 }
 
-// The first n cells become the first n elements of the table.
-fn copy(table: &mut [i16], cells: &[i16], n: usize)
-    requires { ⌜ n ≤ length (now table) ⌝ }
-    requires { ⌜ n ≤ length (now cells) ⌝ }
-    ensures { λ _. ⌜ now (table .exit) ≡ over n (take n (now (cells .entry))) (now (table .entry)) ⌝ }
-{
-    for i in 0..n {
-        table[i] = cells[i];
-    }
-}
-
 // A strip into a table. A refused strip has no element that could be written.
 pub fn read(strip: &[u8], table: &mut [i16]) -> Reading
     ensures { λ r. ⌜ called r (now (table .exit)) ≡ readCall (now (strip .entry)) (now (table .entry)) ⌝ }
@@ -229,6 +218,6 @@ pub fn read(strip: &[u8], table: &mut [i16]) -> Reading
     let decoded = decode(strip, table.len());
     let reading = decoded.reading;
     let used = reading.used();
-    copy(table, &decoded.cells, used);
+    fill::copy_numbers(table, 0, &decoded.cells, used);
     reading
 }

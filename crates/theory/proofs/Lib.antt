@@ -46,5 +46,6 @@ pub mod Paths
 pub mod Filings
 pub mod SettledList
 pub mod Heads
+pub mod LastGroup
 pub mod Unknown
 pub mod Encodings

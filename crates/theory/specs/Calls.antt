@@ -2,8 +2,8 @@
 use mathlib.Core.Bool.{Bool, _||_, cond}
 use mathlib.Core.List.{List, [], _∷_, _++_}
 use mathlib.Core.Option.{Option, none, some}
-use Prim.Native.Nat.{ℕ, zero, suc, _+_, _*_, _/_, _%_, min}
-use lib.Dec.{ltb}
+use Prim.Native.Nat.{ℕ, zero, suc, _+_, _-_, _*_, _/_, _%_, min}
+use lib.Dec.{ltb, eqb}
 use lib.IntN.{ℤ, negsuc, pos as posℤ}
 use lib.ListN.{length, replicate, take, drop}
 use Rattle.general.specs.Lists.{upTo}
@@ -11,7 +11,7 @@ use Rattle.general.specs.Search.{firstPlace}
 use Rattle.literal.specs.declared.Literal.{Literal}
 use Rattle.literal.specs.declared.Literal.the-variants.{Pos, Neg}
 use Rattle.literal.specs.Literal.{maxVariables, maxClauses, maxLiterals, maxTable}
-use Rattle.receipt.specs.declared.Fault.the-variants.{TooManyClauses, TooManyLiterals, PlanShort, TrailShort, HeadsShort, ReceiptShort, UsedLengthWrong, StateShort, TableShort, StripShort, UnmentionedVariable, ReasonsShort, RowsShort}
+use Rattle.receipt.specs.declared.Fault.the-variants.{TooManyClauses, TooManyLiterals, PlanShort, TrailShort, HeadsShort, ReceiptShort, UsedLengthWrong, StateShort, TableShort, StripShort, UnmentionedVariable, ReasonsShort, RowsShort, NoClause}
 use Rattle.receipt.specs.declared.Refusal.{Refusal}
 use Rattle.receipt.specs.declared.Checked.{Checked}
 use Rattle.receipt.specs.declared.Checked.the-variants.{Passed, Refused}
@@ -26,6 +26,8 @@ use Rattle.receipt.specs.declared.Indexing.the-variants as indexing
 use Rattle.receipt.specs.declared.Head.{Head}
 use Rattle.receipt.specs.declared.Adding.{Adding}
 use Rattle.receipt.specs.declared.Adding.the-variants as adding
+use Rattle.receipt.specs.declared.TakingBack.{TakingBack}
+use Rattle.receipt.specs.declared.TakingBack.the-variants as taking-back
 use Rattle.receipt.specs.declared.Reading.{Reading}
 use Rattle.receipt.specs.declared.Reading.the-variants as reading
 use Rattle.receipt.specs.declared.Saving.{Saving}
@@ -34,7 +36,7 @@ use Rattle.receipt.specs.declared.Receipt.{Receipt}
 use Rattle.receipt.specs.Receipt.{numberOf, unknownVariable, refusal}
 use Rattle.receipt.specs.Answers.{searchingReceipt, readVariables}
 use Rattle.theory.specs.Formula.{Formula, Choice, clauses}
-use Rattle.theory.specs.Heads.{headsOf}
+use Rattle.theory.specs.Heads.{headsOf, lastStart}
 use Rattle.theory.specs.SettledList.{decided}
 use Rattle.theory.specs.State.{initial}
 use Rattle.theory.specs.Table.{closes, zeros, nonzeros, refused, isUnknown, check}
@@ -215,6 +217,47 @@ addChecked Passed u n g b =
 -- "Add: 12, then 1 to 5 on the used part"
 unfoldable pub addCall : ℕ → ℕ → List ℤ → List ℤ → AddCall
 addCall u n g b = cond (ltb (length b) u) (addRefused (refusal UsedLengthWrong 0) b) (addChecked (check n (take u b)) u n g b)
+
+-- Taking back -----------------------------------------------------------------------------------------------------
+
+pub record TakeBackCall : Type 0 where
+  pub answer : TakingBack
+  pub buffer : List ℤ
+
+abbrev pub takeBackRefused : Refusal → List ℤ → TakeBackCall
+takeBackRefused r b = record { answer = taking-back.Refused r; buffer = b }
+
+-- "its elements and its closing zero become 0": those from v, the new used length, up to u
+abbrev pub cleared : ℕ → ℕ → List ℤ → List ℤ
+cleared v u b = take v b ++ (replicate (u - v) (posℤ 0) ++ drop u b)
+
+-- "the last group of the used part is removed"; "then 28, nothing to take back, when there is no group"
+abbrev pub takeBackChecked : Checked → ℕ → List ℤ → TakeBackCall
+takeBackChecked (Refused r) u b = takeBackRefused r b
+takeBackChecked Passed u b =
+    cond (eqb (zeros (take u b)) 0) (takeBackRefused (refusal NoClause 0) b)
+    (let v = lastStart (take u b) in record { answer = taking-back.TakenBack v; buffer = cleared v u b })
+
+-- "taking back has 12, 1 to 5" (document 02, A7)
+unfoldable pub takeBackCall : ℕ → ℕ → List ℤ → TakeBackCall
+takeBackCall u n b = cond (ltb (length b) u) (takeBackRefused (refusal UsedLengthWrong 0) b) (takeBackChecked (check n (take u b)) u b)
+
+-- Preview ---------------------------------------------------------------------------------------------------------
+
+-- "a copy with room enough" for list g
+abbrev pub withRoom : List ℤ → List ℤ → List ℤ
+withRoom g b = b ++ replicate (length g + 1) (posℤ 0)
+
+-- Settle of the used part that Add leaves, unless Add refuses
+abbrev pub settleAfter : Adding → ℕ → List ℤ → List ℤ → List ℕ → SettleCall
+settleAfter (adding.Refused r) n b l m = settleRefused r l m
+settleAfter (adding.Added u) n b l m = settleCall n (take u b) l m
+
+-- "the state list and reasons, and .. the number, that settling would after adding it to a copy with room enough"; "add's refusals without 23, then 14, 19" (document 02, A7)
+unfoldable pub previewCall : ℕ → ℕ → List ℤ → List ℤ → List ℤ → List ℕ → SettleCall
+previewCall u n g b l m =
+    let a = addCall u n g (withRoom g b) in
+    cond (ltb (length b) u) (settleRefused (refusal UsedLengthWrong 0) l m) (settleAfter (a .answer) n (a .buffer) l m)
 
 -- Read ------------------------------------------------------------------------------------------------------------
 

@@ -1,7 +1,7 @@
 -- The heads of a table's groups, as Index stores them.
 use mathlib.Core.Path.{_≡_}
 use mathlib.Core.List.{List, [], _∷_, map}
-use Prim.Native.Nat.{ℕ, _+_, _<_}
+use Prim.Native.Nat.{ℕ, _+_, _-_, _<_}
 use lib.IntN.{ℤ, pos as posℤ}
 use lib.ListN.{length, getD, take, drop}
 use Rattle.literal.specs.Literal.{literalOf}
@@ -23,6 +23,16 @@ headsOf t = headsFrom 0 (clauses t)
 -- head number i of a list, from 0 on
 abbrev pub headAt : List Head → ℕ → Head
 headAt hs i = getD hs i (head 0 0)
+
+-- "the last group": where it starts, and the elements of it before its 0 (document 02, A7)
+abbrev pub lastHead : List ℤ → Head
+lastHead t = let hs = headsOf t in headAt hs (length hs - 1)
+
+abbrev pub lastStart : List ℤ → ℕ
+lastStart t = lastHead t .start
+
+abbrev pub lastGroup : List ℤ → List ℤ
+lastGroup t = take (lastHead t .entries) (drop (lastStart t) t)
 
 -- what a head says of its group, the clause c: where its literals stand, and the 0 after them
 pub record HeadOf (t : List ℤ) (c : Clause) (h : Head) : Type 0 where

@@ -1,9 +1,8 @@
 -- `clear_bytes` meets its contract, by the laws of Runs.
-use mathlib.Core.Path.{sym}
 use Prim.Native.Nat.{_-_}
 use borrow.Author.Needs.{needs}
-use lib.ListN.{replicate, length-replicate, getD-replicate}
-use Rattle.general.specs.Runs.{Writing, begun, turned, written}
+use lib.ListN.{replicate}
+use Rattle.general.specs.Runs.{Writing, begun, turned-filling, filled}
 use Rattle.fill.proofs.clear_bytes.Statement.{statement}
 use Rattle.fill.proofs.clear_bytes.Tie as tie
 
@@ -24,6 +23,6 @@ clear-bytes-spec =
     (λ c. search needs)
     (λ c. search needs)
     (λ c. search needs)
-    (λ c. turned _ _ _ _ (length-replicate _ 0) _ _ (c .before .loop .inv) (search needs) (c .loop-test .taken) 0 0 (sym (getD-replicate _ _ 0 0 (c .loop-test .taken))))
+    (λ c. turned-filling 0 _ _ _ _ _ (c .before .loop .inv) (search needs) (c .loop-test .taken))
     (λ c. search needs)
-    (λ c. written _ _ _ _ (length-replicate _ 0) _ _ (c .before .loop .inv) (c .loop-test .left)))
+    (λ c. filled 0 _ _ _ _ _ (c .before .loop .inv) (c .loop-test .left)))

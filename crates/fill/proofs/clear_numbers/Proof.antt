@@ -8,10 +8,10 @@ use Rattle.fill.proofs.clear_numbers.Statement.{statement}
 use Rattle.fill.proofs.clear_numbers.Tie as tie
 
 abbrev Inv-loop : tie.InvT-loop
-Inv-loop numbers₀ n i₀ numbers i = Writing 0 n (replicate n (pos 0)) numbers₀ numbers i
+Inv-loop numbers₀ at n i₀ numbers i = Writing at n (replicate n (pos 0)) numbers₀ numbers i
 
 abbrev μ-loop : tie.MeasureT-loop
-μ-loop numbers₀ n i₀ numbers i = n - i
+μ-loop numbers₀ at n i₀ numbers i = n - i
 
 pub clear-numbers-spec : {M : Type 1} → statement M
 clear-numbers-spec =
@@ -24,6 +24,7 @@ clear-numbers-spec =
     (λ c. search needs)
     (λ c. search needs)
     (λ c. search needs)
-    (λ c. turned-filling (pos 0) _ _ _ _ (c .before .loop .inv) (search needs) (c .loop-test .taken))
     (λ c. search needs)
-    (λ c. filled (pos 0) _ _ _ _ (c .before .loop .inv) (c .loop-test .left)))
+    (λ c. turned-filling (pos 0) _ _ _ _ _ (c .before .loop .inv) (search needs) (c .loop-test .taken))
+    (λ c. search needs)
+    (λ c. filled (pos 0) _ _ _ _ _ (c .before .loop .inv) (c .loop-test .left)))

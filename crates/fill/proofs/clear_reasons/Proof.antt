@@ -7,10 +7,10 @@ use Rattle.fill.proofs.clear_reasons.Statement.{statement}
 use Rattle.fill.proofs.clear_reasons.Tie as tie
 
 abbrev Inv-loop : tie.InvT-loop
-Inv-loop reasons₀ n i₀ reasons i = Writing 0 n (replicate n 0) reasons₀ reasons i
+Inv-loop reasons₀ at n i₀ reasons i = Writing at n (replicate n 0) reasons₀ reasons i
 
 abbrev μ-loop : tie.MeasureT-loop
-μ-loop reasons₀ n i₀ reasons i = n - i
+μ-loop reasons₀ at n i₀ reasons i = n - i
 
 pub clear-reasons-spec : {M : Type 1} → statement M
 clear-reasons-spec =
@@ -23,6 +23,7 @@ clear-reasons-spec =
     (λ c. search needs)
     (λ c. search needs)
     (λ c. search needs)
-    (λ c. turned-filling 0 _ _ _ _ (c .before .loop .inv) (search needs) (c .loop-test .taken))
     (λ c. search needs)
-    (λ c. filled 0 _ _ _ _ (c .before .loop .inv) (c .loop-test .left)))
+    (λ c. turned-filling 0 _ _ _ _ _ (c .before .loop .inv) (search needs) (c .loop-test .taken))
+    (λ c. search needs)
+    (λ c. filled 0 _ _ _ _ _ (c .before .loop .inv) (c .loop-test .left)))

@@ -45,7 +45,7 @@ returns-4 c =
     let e = b .before .before in
     let a = e .before .before .before .before .before .before .args in
     call-walked (a .n) (now (a .table)) (a .allowance) (now (a .plan)) (now (a .trail)) (accepted (e .before .before)) (e .before .if1 .left) (e .if2 .left)
-    initial refl _ (rw zero-add at (b .clear-bytes .ensures)) _ (n .clear-numbers .ensures) (w .walk-table .result) _ _ (w .walk-table .ensures)
+    initial refl _ (rw zero-add at (b .clear-bytes .ensures)) _ (rw zero-add at (n .clear-numbers .ensures)) (w .walk-table .result) _ _ (w .walk-table .ensures)
 
 pub search-spec : {M : Type 1} → statement M
 search-spec =

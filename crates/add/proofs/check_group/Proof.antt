@@ -1,4 +1,4 @@
--- `check_added` meets its contract: the state after the used part has its counts where the part passes, and the rest are the checks of the definition in its order.
+-- `check_group` meets its contract: the state after the used part has its counts where the part passes, and the rest are the checks of the definition in its order.
 use Prim.Native.Nat.{_+_, _<_, _^_}
 use mathlib.Core.Path.{_≡_, sym, ap, _∙_}
 use borrow.Author.Needs.{needs}
@@ -6,26 +6,17 @@ use borrow.Author.Tests.{lt-ltb, le-ltb}
 use native.Mathlib.Omega.{arith}
 use lib.ListN.{length, take}
 use lib.Seq.{length-take-le}
-use Rattle.receipt.specs.declared.Fault.the-variants.{TableShort}
 use Rattle.theory.specs.Table.{check}
 use Rattle.table.specs.Pass.{begin, after, verdict}
 use Rattle.table.proofs.Passes.{verdict-check}
-use Rattle.add.specs.Add.{atMost, checkAdded}
+use Rattle.add.specs.Add.{checkGroup}
 use Rattle.add.proofs.Refusals.{counts-exact}
-use Rattle.add.proofs.check_added.Statement.{statement}
-use Rattle.add.proofs.check_added.Tie as tie
+use Rattle.add.proofs.check_group.Statement.{statement}
+use Rattle.add.proofs.check_group.Tie as tie
 
 returns : tie.Need-returns
-unfolding checkAdded
+unfolding checkGroup
 returns c = c .refused .ensures ∙ rw (lt-ltb _ _ (c .before .if1 .taken))
-
--- the new length is below 2^64
-fits : (c : tie.After-unknown-in) →
-    let a = c .before .before .before .before .before .before .before .before .before .before .before .args in a .used + length (a .group .now) + 1 < 2 ^ 64
-fits c = small (c .before .before .before .before .before .before .before .before .before .before)
-  where
-    small : (c : tie.Else1) → let a = c .before .args in a .used + length (a .group .now) + 1 < 2 ^ 64
-    small c = search needs
 
 -- the state after the used part, and its verdict
 gone : (c : tie.After-after) → let a = c .before .before .before .before .args in c .after .result ≡ after (begin (a .n)) (take (a .used) (a .buffer .now))
@@ -36,13 +27,11 @@ table-check : (c : tie.After-verdict) →
 table-check c = c .verdict .ensures ∙ ap verdict (gone (c .before)) ∙ verdict-check _ _
 
 returns-2 : tie.Need-returns-2
-unfolding checkAdded
+unfolding checkGroup
 returns-2 c =
     let rest = c .before in
-    let list = rest .before in
-    let limits = list .before in
-    let room = limits .before in
-    let unknown = room .before in
+    let limits = rest .before in
+    let unknown = limits .before in
     let clause = unknown .before in
     let literals = clause .before in
     let clauses = literals .before .before in
@@ -52,11 +41,9 @@ returns-2 c =
     let t = take (a .used) (a .buffer .now) in
     let g = a .group .now in
     rw (
-      c .first-refusal4 .ensures,
-      rest .first-refusal3 .ensures,
-      list .first-refusal2 .ensures,
+      c .first-refusal3 .ensures,
+      rest .first-refusal2 .ensures,
       limits .first-refusal .ensures,
-      room .at-most3 .ensures,
       unknown .unknown-in .ensures,
       clause .clause-next .ensures,
       literals .at-most2 .ensures,
@@ -64,10 +51,10 @@ returns-2 c =
       table-check table,
       gone (table .before),
       le-ltb _ _ (h .if1 .left),
-    ) (counts-exact (a .used) (a .n) g t (atMost (a .used + length g + 1) (length (a .buffer .now)) TableShort))
+    ) (counts-exact (a .used) (a .n) g t)
 
-pub check-added-spec : {M : Type 1} → statement M
-check-added-spec =
+pub check-group-spec : {M : Type 1} → statement M
+check-group-spec =
     tie.close
     (tie.spec
     (λ c κs. search needs)
@@ -82,10 +69,6 @@ check-added-spec =
     (λ c. search needs)
     (λ c. search needs)
     (λ c κs. search needs)
-    (λ c κs. search needs)
-    (λ c κs. search needs)
-    (λ c. record { fits = omega (arith, fits c) })
-    (λ c. record { fits = omega (arith, fits c) })
     (λ c κs. search needs)
     (λ c κs. search needs)
     (λ c κs. search needs)
