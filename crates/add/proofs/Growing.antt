@@ -2,17 +2,18 @@
 use mathlib.Core.Path.{_≡_, refl, ap, sym, _∙_}
 use mathlib.Core.Bool.{false}
 use mathlib.Core.Logic.{⊎-elim}
-use mathlib.Core.List.{List, [], _∷_, _++_, map, append-assoc, List·Memᴰ, List·Memᴰ·append-cases, List·Memᴰ·eq-of-singleton}
+use mathlib.Core.List.{List, [], _∷_, _++_, map, append-assoc, List·Memᴰ, List·Memᴰ·append-cases, Memᴰ·append-left, Memᴰ·append-right, List·Memᴰ·eq-of-singleton}
 use Prim.Native.Nat.{ℕ, _+_, _<_, _≤_, zero-le}
 use native.Mathlib.Omega.{arith}
 use lib.IntN.{ℤ, natAbs, pos as posℤ}
-use lib.ListN.{length, take, drop, length-append}
+use lib.ListN.{length, take, drop, length-append, length-drop}
 use lib.Seq.{length-take-le, take-at, drop-at}
 use Rattle.literal.specs.Literal.{literalOf}
 use Rattle.theory.specs.Calls.{added}
 use Rattle.theory.specs.Formula.{clauses}
 use Rattle.theory.specs.Table.{zeros, nonzeros, endsOpen, WithinLimits}
-use Rattle.theory.proofs.Tables.{zeros-append, nonzeros-append, length-elements, endsOpen-append, closed-ends, accepted-exactly, accepted-closed, clauses-append, clauses-one, no-zeros}
+use Rattle.theory.proofs.LastGroup.{Last, zeros-none, last-clauses, last-zeros}
+use Rattle.theory.proofs.Tables.{zeros-append, nonzeros-append, length-elements, endsOpen-append, closed-ends, accepted-exactly, accepted-closed, no-zeros}
 use Rattle.add.specs.Addable.{Follows}
 
 -- the list with its closing 0
@@ -39,10 +40,35 @@ module _ {n : ℕ} {t g : List ℤ} (a : Follows n t g) where
         (List·Memᴰ·append-cases g k)) (List·Memᴰ·append-cases t m);
   }
 
+  -- the list is the last group of it
+  pub grown-last : Last (t ++ group g) t g
+  grown-last = record { whole = refl; closed = accepted-closed n t (accepted-exactly n t .1 (a .within)); no-zeros = no-zeros g entries }
+
   pub grown-clauses : clauses (t ++ group g) ≡ clauses t ++ (map literalOf g ∷ [])
-  grown-clauses =
-      clauses-append false t (group g) (accepted-closed n t (accepted-exactly n t .1 (a .within)))
-      ∙ ap (_++_ (clauses t)) (clauses-one g entries)
+  grown-clauses = last-clauses grown-last
+
+-- and back: what stands before the last group of a table may be followed by that group's elements
+module _ {n : ℕ} {t s g : List ℤ} (w : WithinLimits n t) (l : Last t s g) where
+  literals-sum : nonzeros t ≡ nonzeros s + length g
+  unfolding nonzeros
+  literals-sum = rw (l .whole) (omega (arith, nonzeros-append s (group g), nonzeros-append g (posℤ 0 ∷ []), length-elements g, l .no-zeros))
+
+  known-in : (e : ℤ) → List·Memᴰ e (s ++ group g) → natAbs e ≤ n
+  known-in e m = w .known e (rw (l .whole) m)
+
+  pub shrunk-follows : Follows n s g
+  shrunk-follows = record {
+    within = record {
+      variables = w .variables;
+      clauses = omega (arith, w .clauses, last-zeros l);
+      literals = omega (arith, w .literals, literals-sum);
+      ends = closed-ends s (l .closed);
+      known = λ e m. known-in e (Memᴰ·append-left _ m);
+    };
+    clauses = omega (arith, w .clauses, last-zeros l);
+    literals = omega (arith, w .literals, literals-sum);
+    known = λ e m. (zeros-none g (l .no-zeros) e m, known-in e (Memᴰ·append-right s (Memᴰ·append-left _ m)));
+  }
 
 -- a buffer after its first u elements had the list and a 0 stored behind them
 module _ (u : ℕ) (g b : List ℤ) (h : u ≤ length b) where
@@ -66,3 +92,6 @@ module _ (u : ℕ) (g b : List ℤ) (h : u ≤ length b) where
 
   pub added-after : drop (u + length g + 1) (added u g b) ≡ drop (u + length g + 1) b
   added-after = rw whole (drop-at (take u b ++ group g) _ _ long)
+
+  pub added-length : u + length g + 1 ≤ length b → length (added u g b) ≡ length b
+  added-length room = omega (arith, ap length whole, length-append (take u b ++ group g) (drop (u + length g + 1) b), long, length-drop (u + length g + 1) b)

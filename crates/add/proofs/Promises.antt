@@ -79,6 +79,18 @@ module _ {u n : ℕ} {g b : List ℤ} {r : Adding} {b′ : List ℤ} (c : Call u
       go (refused w h) = (λ k. absurd (k w refl), λ a. absurd (h a))
       go (stored a) = (λ _. a, λ _ w q. let z : _≡_ {A = ℕ} 0 1 = cc in omega arith)
 
+  -- 15 says so
+  pub add-addable : numberOf r ≡ 15 → Addable u n g b
+  add-addable q = add-accepts .0 (λ w e. not-refused (w .fault) 15 refl (sym (ap numberOf e) ∙ q))
+
+  -- and then the call is this
+  pub add-adds : Addable u n g b → called r b′ ≡ called (adding.Added (u + length g + 1)) (added u g b)
+  add-adds = go (way c)
+    where
+      go : {r : Adding} {b′ : List ℤ} → Way u n g b r b′ → Addable u n g b → called r b′ ≡ called (adding.Added (u + length g + 1)) (added u g b)
+      go (refused w h) a = absurd (h a)
+      go (stored h) a = refl
+
   -- 15 group added; "the answer is the new used length"
   pub add-answers : NotRefused r → (addingReceipt r ≡ receipt 15 0 0) × (addedLength r ≡ u + length g + 1)
   add-answers = go (way c)

@@ -1,1 +1,2 @@
 pub mod TakeBack
+pub mod Taken

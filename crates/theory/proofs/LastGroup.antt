@@ -60,7 +60,7 @@ module _ {t s g : List ℤ} (l : Last t s g) where
       let c : getD (clauses t) (length (clauses s)) [] ≡ map literalOf g = rw last-clauses (getD-append-seam (clauses s) (map literalOf g) [] []) in
       rw head-index (heads-hold t (clauses t) 0 refl (length (clauses s)) (omega (arith, clauses-length)) .entries ∙ ap length c ∙ length-map g literalOf)
 
-  last-start : lastStart t ≡ length s
+  pub last-start : lastStart t ≡ length s
   last-start =
       let e = rw (← head-index) at (last-end t (clauses t) 0 refl closed-whole (length (clauses s)) (sym clauses-length)) in
       omega (arith, e, last-entries, ap length (l .whole), length-append s (g ++ (posℤ 0 ∷ [])), length-append g (posℤ 0 ∷ []))

@@ -10,16 +10,19 @@ use lib.Dec.{ltb, eqb, eqb·suc-zero}
 use lib.IntN.{ℤ, negsuc, natAbs, pos as posℤ}
 use lib.ListN.{length, getD, take}
 use borrow.Author.Tests.{ltb-false, le-ltb, eqb-true, eqb-false, ne-eqb, not-false}
-use Rattle.general.specs.Booleans.{bit, true-not-false, bit-not}
+use Rattle.general.specs.Booleans.{bit, true-not-false, bit-not, cond-ind}
 use Rattle.general.specs.Search.{firstPlace, place-none, none-placed}
 use Rattle.literal.specs.declared.Literal.{Literal}
 use Rattle.literal.specs.declared.Literal.the-variants.{Pos, Neg}
 use Rattle.literal.specs.Literal.{var, literalOf, maxVariables, maxClauses, maxLiterals}
+use Rattle.receipt.specs.Receipt.{numberOf, unknownVariable, refusal}
+use Rattle.receipt.specs.declared.Fault.{Fault}
+use Rattle.receipt.specs.declared.Fault.the-variants.{TooManyVariables, TooManyClauses, TooManyLiterals, OpenClause}
 use Rattle.receipt.specs.declared.Checked.{Checked}
 use Rattle.receipt.specs.declared.Refusal.{Refusal}
 use Rattle.receipt.specs.declared.Checked.the-variants.{Passed, Refused}
 use Rattle.theory.specs.Formula.{Clause, Formula, clauses, push, Within}
-use Rattle.theory.specs.Table.{closes, zeros, nonzeros, endsOpen, isUnknown, tableUnknown, check, Accepted, WithinLimits}
+use Rattle.theory.specs.Table.{closes, zeros, nonzeros, endsOpen, refused, isUnknown, tableUnknown, check, Accepted, WithinLimits}
 
 -- a check that passes passed its first test, and the rest
 pub past : (b : Bool) (r : Refusal) (s : Checked) → cond b (Refused r) s ≡ Passed → (b ≡ false) × (s ≡ Passed)
@@ -124,6 +127,26 @@ module _ (n : ℕ) (t : List ℤ) where
       ends-closed false t (λ q. refl) (w .ends),
     ) (bound-known n t (w .known)),
   )
+
+-- what is refused is refused with one of the numbers 1 to 5
+abbrev pub AtMostFive : Checked → Type 0
+AtMostFive c = (w : Refusal) → c ≡ Refused w → numberOf (w .fault) ≤ 5
+
+refused-five : (why : Fault) (i : ℕ) → numberOf why ≤ 5 → AtMostFive (refused why i)
+refused-five why i h w e = let q : refusal why i ≡ w = cc in rw (← q) h
+
+pub check-refuses : (n : ℕ) (t : List ℤ) → AtMostFive (check n t)
+unfolding check
+check-refuses n t =
+    cond-ind AtMostFive _ _ (ltb maxVariables n) (λ _. refused-five TooManyVariables 0 (omega arith))
+    (λ _. cond-ind AtMostFive _ _ (ltb maxClauses (zeros t)) (λ _. refused-five TooManyClauses 0 (omega arith))
+    (λ _. cond-ind AtMostFive _ _ (ltb maxLiterals (nonzeros t)) (λ _. refused-five TooManyLiterals 0 (omega arith))
+    (λ _. cond-ind AtMostFive _ _ (endsOpen false t) (λ _. refused-five OpenClause 0 (omega arith))
+    (λ _. unknown (firstPlace (isUnknown n) 0 t)))))
+  where
+    unknown : (o : Option ℕ) → AtMostFive (tableUnknown t o)
+    unknown none = λ w e. absurd (let z : _≡_ {A = ℕ} 0 1 = cc in omega arith)
+    unknown (some i) = refused-five (unknownVariable (zeros (take i t) + 1)) i (omega arith)
 
 -- literals ---------------------------------------------------------------------------------------------------------
 
