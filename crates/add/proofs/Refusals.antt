@@ -1,7 +1,7 @@
 -- What Add asks before it writes: the first wrong element of the list, and the checks in their order.
 use mathlib.Core.Option.{Option, none, some}
 use Prim.Native.Nat.{ℕ, zero, suc, _+_, _≤_, _<_}
-use mathlib.Core.Path.{_≡_, refl, ap}
+use mathlib.Core.Path.{_≡_, refl, ap, sym, _∙_}
 use mathlib.Core.Bool.{Bool, true, false, not, _||_, cond}
 use mathlib.Core.Logic.{_↔_}
 use mathlib.Core.List.{List, List·Memᴰ}
@@ -13,22 +13,23 @@ use borrow.Author.Tests.{lt-ltb, le-ltb, le-leb, lt-leb, ltb-false, ne-eqb}
 use lib.Dec.{ltb, eqb, eqb·suc-zero}
 use lib.IntN.{ℤ, pos, natAbs}
 use lib.ListN.{length, getD, take, drop, drop-of-length-le}
-use lib.Seq.{drop-cons}
+use lib.Seq.{length-take-le, drop-cons}
+use Rattle.general.specs.Booleans.{cond-ind}
 use Rattle.general.specs.Search.{firstPlace, place-none, none-placed}
-use Rattle.literal.specs.Literal.{maxClauses, maxLiterals}
-use Rattle.receipt.specs.Receipt.{unknownVariable, refusal}
+use Rattle.literal.specs.Literal.{maxClauses, maxLiterals, maxTable}
+use Rattle.receipt.specs.Receipt.{numberOf, unknownVariable, refusal}
 use Rattle.receipt.specs.declared.Adding.the-variants.{Added}
 use Rattle.receipt.specs.declared.Fault.{Fault}
-use Rattle.receipt.specs.declared.Fault.the-variants.{TooManyClauses, TooManyLiterals, UsedLengthWrong}
+use Rattle.receipt.specs.declared.Fault.the-variants.{TooManyClauses, TooManyLiterals, UsedLengthWrong, TableShort}
 use Rattle.receipt.specs.declared.Checked.{Checked}
 use Rattle.receipt.specs.declared.Checked.the-variants.{Passed, Refused}
 use Rattle.theory.specs.Table.{zeros, nonzeros, refused, check}
 use Rattle.theory.specs.Calls.{AddCall, addRefused, isWrong, listUnknown, unknownIn, added, addKnown, addChecked, addCall}
-use Rattle.theory.proofs.Tables.{past, known-variable, accepted-sizes, accepted-exactly}
+use Rattle.theory.proofs.Tables.{past, known-variable, length-elements, accepted-sizes, accepted-exactly, NumberAtMost, passed-at-most, refused-at-most, check-refuses}
 use Rattle.table.specs.Pass.{begin, enoughClauses, clauseNext, after}
 use Rattle.table.proofs.Passes.{clauses-exact, literals-exact}
 use Rattle.add.specs.Addable.{Follows}
-use Rattle.add.specs.Add.{known, firstRefusal, atMost, checkGroup, called}
+use Rattle.add.specs.Add.{known, firstRefusal, atMost, checkGroup, checkAdded, called}
 
 -- the test of the definition is the opposite of the code's
 wrong-known : (n k : ℕ) → (eqb k 0 || ltb n k) ≡ not (known n k)
@@ -82,6 +83,12 @@ module _ (b : List ℤ) where
   pub call-checked : (u n : ℕ) (g : List ℤ) → addCall u n g b ≡ unlessRefused b (checkGroup u n g b) (addKnown Passed u g b)
   unfolding addCall checkGroup
   call-checked u n g = simp (first-then, limit-then) (rw (checked-then (check n (take u b)) u n g, known-then (unknownIn u (zeros (take u b) + 1) n g) u g))
+
+  -- and so with the room among the checks
+  pub call-added : (u n : ℕ) (g : List ℤ) → addCall u n g b ≡ unlessRefused b (checkAdded u n g b (length b)) (called (Added (u + length g + 1)) (added u g b))
+  call-added u n g =
+      call-checked u n g
+      ∙ sym (first-then (checkGroup u n g b) _ _ ∙ ap (unlessRefused b (checkGroup u n g b)) (limit-then (u + length g + 1) (length b) TableShort _))
 
 -- the checks after that of the used part t, which ask only where it passes, by the counts of the state after it
 module _ (u n : ℕ) (g t : List ℤ) where
@@ -160,3 +167,38 @@ module _ (u n : ℕ) (g b : List ℤ) where
 pub checked-alike : (u n : ℕ) (g b c : List ℤ) → u ≤ length b → u ≤ length c → take u b ≡ take u c → checkGroup u n g b ≡ checkGroup u n g c
 unfolding checkGroup
 checked-alike u n g b c h k e = rw (le-ltb (length b) u h, le-ltb (length c) u k, e)
+
+-- and refuse with 12 or a number of 1 to 5
+pub group-refuses : (u n : ℕ) (g b : List ℤ) → NumberAtMost 12 (checkGroup u n g b)
+unfolding checkGroup unknownIn
+group-refuses u n g b =
+    first _ _ (most u (length b) UsedLengthWrong (omega arith))
+    (first (check n (take u b)) _ (λ w e. omega (arith, check-refuses n (take u b) w e))
+    (first _ _ (first _ _ (most (zeros (take u b) + 1) maxClauses TooManyClauses (omega arith)) (most (nonzeros (take u b) + length g) maxLiterals TooManyLiterals (omega arith))) (unknown (firstPlace (isWrong n) u g))))
+  where
+    first : (c d : Checked) → NumberAtMost 12 c → NumberAtMost 12 d → NumberAtMost 12 (firstRefusal c d)
+    first (Refused r) d h k = h
+    first Passed d h k = k
+
+    most : (count limit : ℕ) (why : Fault) → numberOf why ≤ 12 → NumberAtMost 12 (atMost count limit why)
+    most count limit why h = cond-ind (NumberAtMost 12) _ _ (ltb limit count) (λ _. refused-at-most 12 why 0 h) (λ _. passed-at-most 12)
+
+    unknown : (o : Option ℕ) → NumberAtMost 12 (listUnknown (zeros (take u b) + 1) o)
+    unknown none = passed-at-most 12
+    unknown (some i) = refused-at-most 12 (unknownVariable (zeros (take u b) + 1)) i (omega arith)
+
+pub added-fits : (u n : ℕ) (g b : List ℤ) (room : ℕ) → checkAdded u n g b room ≡ Passed → u + length g + 1 ≤ room
+added-fits u n g b room e = most-passed (u + length g + 1) room TableShort .0 (first-passed (checkGroup u n g b) _ .0 e .1)
+
+-- the longest table has room for every list that may follow: with so much room the checks never say 23
+pub group-fits : (u n : ℕ) (g b : List ℤ) → checkGroup u n g b ≡ Passed → u + length g + 1 ≤ maxTable
+group-fits u n g b e =
+    let a = checked-exactly u n g b .0 e in
+    omega (arith, length-take-le u b (a .0), length-elements (take u b), a .1 .clauses, a .1 .literals)
+
+pub room-enough : (u n : ℕ) (g b : List ℤ) → checkAdded u n g b maxTable ≡ checkGroup u n g b
+room-enough u n g b = go (checkGroup u n g b) refl
+  where
+    go : (k : Checked) → checkGroup u n g b ≡ k → firstRefusal k (atMost (u + length g + 1) maxTable TableShort) ≡ k
+    go (Refused r) e = refl
+    go Passed e = rw (le-ltb maxTable (u + length g + 1) (group-fits u n g b e))

@@ -8,7 +8,7 @@ use lib.ListN.{length, take}
 use Rattle.literal.specs.Literal.{maxClauses, maxLiterals}
 use Rattle.receipt.specs.declared.Adding.{Adding}
 use Rattle.receipt.specs.declared.Fault.{Fault}
-use Rattle.receipt.specs.declared.Fault.the-variants.{TooManyClauses, TooManyLiterals, UsedLengthWrong}
+use Rattle.receipt.specs.declared.Fault.the-variants.{TooManyClauses, TooManyLiterals, UsedLengthWrong, TableShort}
 use Rattle.receipt.specs.declared.Checked.{Checked}
 use Rattle.receipt.specs.declared.Checked.the-variants.{Passed, Refused}
 use Rattle.theory.specs.Table.{zeros, nonzeros, refused, check}
@@ -34,6 +34,10 @@ checkGroup u n g b =
     (firstRefusal (check n (take u b))
     (firstRefusal (firstRefusal (atMost (zeros (take u b) + 1) maxClauses TooManyClauses) (atMost (nonzeros (take u b) + length g) maxLiterals TooManyLiterals))
     (unknownIn u (zeros (take u b) + 1) n g)))
+
+-- and then 23, where the table has room for so many elements
+abbrev pub checkAdded : ℕ → ℕ → List ℤ → List ℤ → ℕ → Checked
+checkAdded u n g b room = firstRefusal (checkGroup u n g b) (atMost (u + length g + 1) room TableShort)
 
 abbrev pub called : Adding → List ℤ → AddCall
 called r b = record { answer = r; buffer = b }

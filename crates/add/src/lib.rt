@@ -3,13 +3,12 @@ ghost use mathlib.Core.Path.{_≡_};
 ghost use Prim.Native.Nat.{_+_, _^_, _<_};
 ghost use lib.ListN.{length};
 ghost use Rattle.theory.specs.Calls.{unknownIn, added, addCall};
-ghost use Rattle.add.specs.Add.{known, firstRefusal, atMost, checkGroup, called};
+ghost use Rattle.add.specs.Add.{known, firstRefusal, atMost, checkGroup, checkAdded, called};
 use literal::ClauseNumber;
 use literal::Literal;
 use receipt::Adding;
 use receipt::Checked;
 use receipt::Fault;
-use receipt::Refusal;
 use table::Pass;
 
 // Whether an element of the list, by its size, is an entry of a placement from 1 to n. A zero isn't.
@@ -54,7 +53,7 @@ fn first_refusal(first: Checked, second: Checked) -> Checked
 }
 
 // "Add: 12, then 1 to 5 on the used part, 2 and 3 with the group added, 5 on the list": all but the room.
-pub fn check_group(buffer: &[i16], used: usize, n: usize, group: &[i16]) -> Checked
+fn check_group(buffer: &[i16], used: usize, n: usize, group: &[i16]) -> Checked
     ensures { λ r. ⌜ r ≡ checkGroup used n (now (group .entry)) (now (buffer .entry)) ⌝ }
 {
     if buffer.len() < used {
@@ -79,6 +78,17 @@ pub fn check_group(buffer: &[i16], used: usize, n: usize, group: &[i16]) -> Chec
     first_refusal(used_part, first_refusal(limits, unknown))
 }
 
+// All of Add's checks, 23 last, where the table has room for so many elements.
+pub fn check_added(buffer: &[i16], used: usize, n: usize, group: &[i16], room: usize) -> Checked
+    ensures { λ r. ⌜ r ≡ checkAdded used n (now (group .entry)) (now (buffer .entry)) room ⌝ }
+{
+    let checked = check_group(buffer, used, n, group);
+    match checked {
+        Checked::Refused(_) => checked,
+        Checked::Passed => at_most(used + group.len() + 1, room, Fault::TableShort),
+    }
+}
+
 // "The list and a closing 0 are stored at u".
 pub fn store(buffer: &mut [i16], used: usize, group: &[i16])
     requires { ⌜ used + length (now group) < length (now buffer) ⌝ }
@@ -93,17 +103,13 @@ pub fn store(buffer: &mut [i16], used: usize, group: &[i16])
 pub fn add(buffer: &mut [i16], used: usize, n: usize, group: &[i16]) -> Adding
     ensures { λ r. ⌜ called r (now (buffer .exit)) ≡ addCall used n (now (group .entry)) (now (buffer .entry)) ⌝ }
 {
-    let checked = check_group(buffer, used, n, group);
+    let room = buffer.len();
+    let checked = check_added(buffer, used, n, group, room);
     match checked {
         Checked::Refused(refusal) => Adding::Refused(refusal),
         Checked::Passed => {
-            let room = buffer.len();
-            let length = used + group.len() + 1;
-            if room < length {
-                return Adding::Refused(Refusal::new(Fault::TableShort, 0));
-            }
             store(buffer, used, group);
-            Adding::Added(length)
+            Adding::Added(used + group.len() + 1)
         }
     }
 }

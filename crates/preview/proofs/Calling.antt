@@ -1,24 +1,26 @@
 -- What code answers, and leaves in both lists, is the call of Preview.
 use mathlib.Core.Path.{_≡_, refl, ap, sym, _∙_}
-use mathlib.Core.List.{List, [], _∷_, _++_}
-use Prim.Native.Nat.{ℕ, _+_, _<_, _≤_}
+use mathlib.Core.List.{List, _++_}
+use Prim.Native.Nat.{ℕ, _+_, _≤_}
 use native.Mathlib.Decide.{decLt}
 use native.Mathlib.Omega.{arith}
 use borrow.Author.Tests.{lt-ltb, le-ltb}
 use lib.IntN.{ℤ, pos as posℤ}
-use lib.ListN.{length, take, drop, replicate, length-append, length-replicate}
+use lib.ListN.{length, take, drop, length-append, length-replicate}
 use lib.Seq.{length-take-le, take-append-le, take-at}
-use Rattle.literal.specs.Literal.{maxTable}
 use Rattle.receipt.specs.declared.Checked.{Checked}
 use Rattle.receipt.specs.declared.Checked.the-variants.{Passed, Refused}
 use Rattle.receipt.specs.declared.Refusal.{Refusal}
+use Rattle.receipt.specs.declared.Settling.the-variants as settling
+use Rattle.literal.specs.Literal.{maxTable}
+use Rattle.settle.specs.Settle.{called}
 use Rattle.theory.specs.Calls.{SettleCall, settleRefused, settleCall, added, withRoom, previewCall}
 use Rattle.theory.specs.Table.{Accepted}
-use Rattle.theory.proofs.Tables.{length-elements, accepted-exactly}
-use Rattle.add.specs.Add.{checkGroup}
+use Rattle.theory.proofs.Tables.{accepted-exactly}
+use Rattle.add.specs.Add.{checkGroup, checkAdded}
 use Rattle.add.specs.Addable.{Follows}
 use Rattle.add.proofs.Growing.{group, grown-limits, added-table}
-use Rattle.add.proofs.Refusals.{call-checked, checked-exactly, checked-alike}
+use Rattle.add.proofs.Refusals.{call-checked, checked-exactly, checked-alike, room-enough}
 
 module _ (u n : ℕ) (g b l : List ℤ) (m : List ℕ) where
   -- unless the checks refuse, Settle of the used part with the list and its 0
@@ -52,7 +54,11 @@ module _ (u n : ℕ) (g b l : List ℤ) (m : List ℕ) where
     | no h ↦ by-checks (omega arith) (checkGroup u n g b) refl
   ]
 
--- where the checks pass: the longest table has room for the copy, and the copy with the list stored is a table within the limits
+  -- what code refuses, by its checks
+  pub call-refused : (k : Checked) (r : Refusal) → k ≡ checkAdded u n g b maxTable → k ≡ Refused r → called (settling.Refused r) l m ≡ previewCall u n g b l m
+  call-refused k r e q = sym (preview-checked ∙ ap previewed (sym (room-enough u n g b) ∙ sym e ∙ q))
+
+-- where the checks pass, the copy with the list stored is a table within the limits
 module _ (u n : ℕ) (g b : List ℤ) (passed : checkGroup u n g b ≡ Passed) where
   pub used-inside : u ≤ length b
   used-inside = checked-exactly u n g b .0 passed .0
@@ -62,9 +68,6 @@ module _ (u n : ℕ) (g b : List ℤ) (passed : checkGroup u n g b ≡ Passed) w
 
   pub grown-accepted : Accepted n (take u b ++ group g)
   grown-accepted = accepted-exactly n (take u b ++ group g) .1 (grown-limits follows)
-
-  pub room-enough : u + length g + 1 ≤ maxTable
-  room-enough = omega (arith, length-take-le u b used-inside, length-elements (take u b), follows .clauses, follows .literals)
 
   pub grown-table : (z c d : List ℤ) → c ≡ take u b ++ drop (0 + u) z → d ≡ added u g c → take (u + length g + 1) d ≡ take u b ++ group g
   grown-table z c d e i =

@@ -6,7 +6,7 @@ use literal::Literal;
 use receipt::Checked;
 use receipt::Settling;
 
-// The copy has the elements of the longest table, so there is room for every group that passes the checks.
+// What is settled is a copy with the group added. It has the elements of the longest table, so no group that passes the other checks is short of room.
 pub fn preview(
     buffer: &[i16],
     used: usize,
@@ -16,8 +16,9 @@ pub fn preview(
     reasons: &mut [u16],
 ) -> Settling
     ensures { λ r. ⌜ called r (now (list .exit)) (now (reasons .exit)) ≡ previewCall used n (now (group .entry)) (now (buffer .entry)) (now (list .entry)) (now (reasons .entry)) ⌝ }
+    ensures { λ _. ⌜ now (buffer .exit) ≡ now (buffer .entry) ⌝ }
 {
-    let checked = add::check_group(buffer, used, n, group);
+    let checked = add::check_added(buffer, used, n, group, Literal::MAX_TABLE);
     match checked {
         Checked::Refused(refusal) => Settling::Refused(refusal),
         Checked::Passed => {

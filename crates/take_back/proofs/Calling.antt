@@ -1,11 +1,11 @@
 -- What code answers, and leaves in the buffer, is the call of Take back.
-use mathlib.Core.Path.{_≡_, refl, ap, sym, _∙_}
-use mathlib.Core.List.{List, [], _++_}
-use Prim.Native.Nat.{ℕ, _-_, _<_, _≤_}
+use mathlib.Core.Path.{_≡_, ap, _∙_}
+use mathlib.Core.List.{List, _++_}
+use Prim.Native.Nat.{ℕ, _+_, _-_, _<_, _≤_}
 use native.Mathlib.Omega.{arith}
 use borrow.Author.Tests.{lt-ltb, le-ltb, eq-eqb, ne-eqb}
-use lib.IntN.{ℤ}
-use lib.ListN.{length, take}
+use lib.IntN.{ℤ, pos as posℤ}
+use lib.ListN.{length, take, drop, replicate}
 use lib.Seq.{length-take-le}
 use Rattle.receipt.specs.declared.Fault.the-variants.{UsedLengthWrong, NoClause}
 use Rattle.receipt.specs.declared.Refusal.{Refusal}
@@ -15,7 +15,7 @@ use Rattle.receipt.specs.Receipt.{refusal}
 use Rattle.theory.specs.Calls.{cleared, takeBackCall}
 use Rattle.theory.specs.Heads.{lastStart}
 use Rattle.theory.specs.Table.{zeros, check}
-use Rattle.theory.proofs.LastGroup.{Last, last-found, last-zeros, start-inside}
+use Rattle.theory.proofs.LastGroup.{last-found, last-zeros, start-inside}
 use Rattle.theory.proofs.Tables.{accepted-closed}
 use Rattle.take_back.specs.TakeBack.{called}
 
@@ -52,3 +52,10 @@ module _ (u n : ℕ) (b : List ℤ) where
         call-taken =
             let z = last-zeros (last-found (take u b) (accepted-closed n (take u b) passed) some-used) in
             rw (le-ltb (length b) u room, passed, ne-eqb (zeros (take u b)) 0 (λ e. omega (arith, e, z)))
+
+        -- by where code finds the start, and what it clears
+        pub call-cleared : (v : ℕ) → v ≡ lastStart (take u b) → (b′ : List ℤ) → b′ ≡ take v b ++ (replicate (u - v) (posℤ 0) ++ drop (v + (u - v)) b) →
+            called (taking-back.TakenBack v) b′ ≡ takeBackCall u n b
+        call-cleared v e b′ i =
+            let k : v + (u - v) ≡ u = omega (arith, e, start-before) in
+            ap (called (taking-back.TakenBack v)) (rw k at i) ∙ rw e call-taken

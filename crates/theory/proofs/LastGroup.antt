@@ -1,15 +1,14 @@
 -- The last group of a table: what stands before it is a table, and it is found by going back from the end.
-use mathlib.Core.Path.{_≡_, refl, ap, sym, subst, _∙_}
-use mathlib.Core.Bool.{Bool, true, false, not}
+use mathlib.Core.Path.{_≡_, refl, ap, sym, _∙_}
+use mathlib.Core.Bool.{Bool, true, false}
 use mathlib.Core.Logic.{⊎-elim}
 use mathlib.Core.List.{List, [], _∷_, _++_, map, append-assoc, List·Memᴰ, List·Memᴰ·not-nil, List·Memᴰ·cases-cons}
 use Prim.Native.Nat.{ℕ, zero, suc, _+_, _-_, _<_, _≤_}
 use native.Mathlib.Decide.{decLt}
-use native.Mathlib.Numerals.{add-one}
 use native.Mathlib.Omega.{arith}
 use borrow.Author.Tests.{eq-eqb}
 use lib.IntN.{ℤ, natAbs, pos as posℤ}
-use lib.ListN.{length, getD, take, drop, length-append, length-map, take-append-drop}
+use lib.ListN.{length, getD, take, length-append, length-map, take-append-drop}
 use lib.Seq.{length-take-le, take-length, take-suc, take-take, take-at, drop-at, getD-append-seam, slice, slice-empty, slice-cons}
 use Rattle.general.specs.Booleans.{bit}
 use Rattle.literal.specs.Literal.{literalOf}

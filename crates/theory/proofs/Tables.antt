@@ -128,25 +128,28 @@ module _ (n : ℕ) (t : List ℤ) where
     ) (bound-known n t (w .known)),
   )
 
--- what is refused is refused with one of the numbers 1 to 5
-abbrev pub AtMostFive : Checked → Type 0
-AtMostFive c = (w : Refusal) → c ≡ Refused w → numberOf (w .fault) ≤ 5
+-- what is refused is refused with a number of at most k
+abbrev pub NumberAtMost : ℕ → Checked → Type 0
+NumberAtMost k c = (w : Refusal) → c ≡ Refused w → numberOf (w .fault) ≤ k
 
-refused-five : (why : Fault) (i : ℕ) → numberOf why ≤ 5 → AtMostFive (refused why i)
-refused-five why i h w e = let q : refusal why i ≡ w = cc in rw (← q) h
+pub passed-at-most : (k : ℕ) → NumberAtMost k Passed
+passed-at-most k w e = absurd (let z : _≡_ {A = ℕ} 0 1 = cc in omega arith)
 
-pub check-refuses : (n : ℕ) (t : List ℤ) → AtMostFive (check n t)
+pub refused-at-most : (k : ℕ) (why : Fault) (i : ℕ) → numberOf why ≤ k → NumberAtMost k (refused why i)
+refused-at-most k why i h w e = let q : refusal why i ≡ w = cc in rw (← q) h
+
+pub check-refuses : (n : ℕ) (t : List ℤ) → NumberAtMost 5 (check n t)
 unfolding check
 check-refuses n t =
-    cond-ind AtMostFive _ _ (ltb maxVariables n) (λ _. refused-five TooManyVariables 0 (omega arith))
-    (λ _. cond-ind AtMostFive _ _ (ltb maxClauses (zeros t)) (λ _. refused-five TooManyClauses 0 (omega arith))
-    (λ _. cond-ind AtMostFive _ _ (ltb maxLiterals (nonzeros t)) (λ _. refused-five TooManyLiterals 0 (omega arith))
-    (λ _. cond-ind AtMostFive _ _ (endsOpen false t) (λ _. refused-five OpenClause 0 (omega arith))
+    cond-ind (NumberAtMost 5) _ _ (ltb maxVariables n) (λ _. refused-at-most 5 TooManyVariables 0 (omega arith))
+    (λ _. cond-ind (NumberAtMost 5) _ _ (ltb maxClauses (zeros t)) (λ _. refused-at-most 5 TooManyClauses 0 (omega arith))
+    (λ _. cond-ind (NumberAtMost 5) _ _ (ltb maxLiterals (nonzeros t)) (λ _. refused-at-most 5 TooManyLiterals 0 (omega arith))
+    (λ _. cond-ind (NumberAtMost 5) _ _ (endsOpen false t) (λ _. refused-at-most 5 OpenClause 0 (omega arith))
     (λ _. unknown (firstPlace (isUnknown n) 0 t)))))
   where
-    unknown : (o : Option ℕ) → AtMostFive (tableUnknown t o)
-    unknown none = λ w e. absurd (let z : _≡_ {A = ℕ} 0 1 = cc in omega arith)
-    unknown (some i) = refused-five (unknownVariable (zeros (take i t) + 1)) i (omega arith)
+    unknown : (o : Option ℕ) → NumberAtMost 5 (tableUnknown t o)
+    unknown none = passed-at-most 5
+    unknown (some i) = refused-at-most 5 (unknownVariable (zeros (take i t) + 1)) i (omega arith)
 
 -- literals ---------------------------------------------------------------------------------------------------------
 

@@ -1,51 +1,43 @@
--- `add` meets its contract: what the checks refuse changes nothing, and else the room decides.
-use Prim.Native.Nat.{_+_, _<_, _≤_, _^_}
+-- `add` meets its contract: what the checks refuse changes nothing, and what passes has room.
+use Prim.Native.Nat.{_+_, _<_}
 use mathlib.Core.Path.{_≡_, sym, ap, _∙_}
 use borrow.Author.Needs.{needs}
-use borrow.Author.Tests.{lt-ltb, le-ltb}
 use native.Mathlib.Omega.{arith}
 use lib.ListN.{length}
+use Rattle.receipt.specs.declared.Adding.the-variants.{Added}
 use Rattle.receipt.specs.declared.Checked.{Checked}
-use Rattle.receipt.specs.declared.Checked.the-variants.{Passed}
-use Rattle.theory.specs.Calls.{addKnown, addCall}
+use Rattle.theory.specs.Calls.{added, addCall}
 use Rattle.add.specs.Add.{called}
-use Rattle.add.proofs.Refusals.{unlessRefused, call-checked, checked-exactly}
+use Rattle.add.proofs.Refusals.{unlessRefused, call-added, added-fits}
 use Rattle.add.proofs.add.Statement.{statement}
 use Rattle.add.proofs.add.Tie as tie
 
 -- the call, by the answer of the checks
-checked : (c : tie.After-check-group) (r : Checked) → c .check-group .result ≡ r →
+checked : (c : tie.After-check-added) (r : Checked) → c .check-added .result ≡ r →
     let a = c .before .before .args in
-    addCall (a .used) (a .n) (a .group .now) (a .buffer .now) ≡ unlessRefused (a .buffer .now) r (addKnown Passed (a .used) (a .group .now) (a .buffer .now))
+    addCall (a .used) (a .n) (a .group .now) (a .buffer .now) ≡
+    unlessRefused (a .buffer .now) r (called (Added (a .used + length (a .group .now) + 1)) (added (a .used) (a .group .now) (a .buffer .now)))
 checked c r e =
     let a = c .before .before .args in
-    call-checked (a .buffer .now) (a .used) (a .n) (a .group .now) ∙ rw (← c .check-group .ensures, e)
+    call-added (a .buffer .now) (a .used) (a .n) (a .group .now) ∙ rw (← c .check-added .ensures, e)
 
--- the new length is below 2^64: a slice of 16-bit numbers has fewer than 2^62 elements
-fits : (c : tie.After-enum-told) →
-    let a = c .before .before .before .before .args in a .used + length (a .group .now) + 1 < 2 ^ 64
-fits c =
+room : (c : tie.After-enum-told) →
+    let a = c .before .before .before .before .args in a .used + length (a .group .now) < length (a .buffer .now)
+room c =
     let h = c .before .before in
     let a = h .before .before .args in
-    small (checked-exactly (a .used) (a .n) (a .group .now) (a .buffer .now) .0 (sym (h .check-group .ensures) ∙ c .enum-told .given .1) .0)
-  where
-    small : let a = c .before .before .before .before .args in a .used ≤ length (a .buffer .now) → a .used + length (a .group .now) + 1 < 2 ^ 64
-    small h = search needs
+    omega (arith, added-fits (a .used) (a .n) (a .group .now) (a .buffer .now) _ (sym (h .check-added .ensures) ∙ c .enum-told .given .1))
+
+store-requires : tie.Need-store-requires
+store-requires c κs = room (c .before)
 
 returns : tie.Need-returns
-returns c =
-    let e = c .before .before in
-    rw (c .new .ensures) (sym (checked (e .before .before) _ (e .enum-told .given .1) ∙ rw (lt-ltb _ _ (c .before .if1 .taken))))
+returns c = sym (checked (c .before .before .before) _ (c .before .checked .given .1))
 
 returns-2 : tie.Need-returns-2
-returns-2 c = sym (checked (c .before .before .before) _ (c .before .checked .given .1))
-
-returns-3 : tie.Need-returns-3
-returns-3 c =
-    let s = c .before in
-    let i = s .before .before in
-    let e = i .before in
-    ap (called _) (s .store .ensures) ∙ sym (checked (e .before .before) _ (e .enum-told .given .1) ∙ rw (le-ltb _ _ (i .if1 .left)))
+returns-2 c =
+    let h = c .before .before .before in
+    ap (called _) (c .before .store .ensures) ∙ sym (checked (h .before .before) _ (h .enum-told .given .1))
 
 pub add-spec : {M : Type 1} → statement M
 add-spec =
@@ -54,13 +46,10 @@ add-spec =
     (λ c κs. search needs)
     (λ c. search needs)
     (λ c. search needs)
-    (λ c. record { fits = omega (arith, fits c) })
-    (λ c. record { fits = fits c })
-    (λ c κs. search needs)
+    store-requires
+    (λ c. record { fits = omega (arith, room (c .before .before .before)) })
+    (λ c. record { fits = omega (arith, room (c .before .before .before)) })
     (λ c. search needs)
     returns
-    (λ c κs. search needs)
     (λ c. search needs)
-    returns-2
-    (λ c. search needs)
-    returns-3)
+    returns-2)

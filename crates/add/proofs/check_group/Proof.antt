@@ -1,10 +1,8 @@
 -- `check_group` meets its contract: the state after the used part has its counts where the part passes, and the rest are the checks of the definition in its order.
-use Prim.Native.Nat.{_+_, _<_, _^_}
 use mathlib.Core.Path.{_≡_, sym, ap, _∙_}
 use borrow.Author.Needs.{needs}
 use borrow.Author.Tests.{lt-ltb, le-ltb}
-use native.Mathlib.Omega.{arith}
-use lib.ListN.{length, take}
+use lib.ListN.{take}
 use lib.Seq.{length-take-le}
 use Rattle.theory.specs.Table.{check}
 use Rattle.table.specs.Pass.{begin, after, verdict}

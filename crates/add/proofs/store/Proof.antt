@@ -1,7 +1,7 @@
 -- `store` meets its contract: the list and a 0 after it are one run.
 use Prim.Native.Nat.{ℕ, _+_, _<_}
 use mathlib.Core.Path.{_≡_, refl, _∙_}
-use mathlib.Core.List.{List, [], append-assoc}
+use mathlib.Core.List.{List, append-assoc}
 use borrow.Author.Needs.{needs}
 use native.Mathlib.Omega.{arith}
 use lib.IntN.{ℤ, pos}

@@ -1,5 +1,5 @@
 -- `preview` meets its contract: what the checks refuse writes nothing, and what passes is settled on a copy.
-use mathlib.Core.Path.{_≡_, sym, ap, subst, _∙_}
+use mathlib.Core.Path.{_≡_, refl, sym, ap, subst, _∙_}
 use borrow.Author.Needs.{needs}
 use native.Mathlib.Omega.{arith}
 use Prim.Native.Nat.{_+_, _≤_}
@@ -12,20 +12,21 @@ use Rattle.theory.specs.Calls.{settleCall}
 use Rattle.theory.specs.Table.{Accepted}
 use Rattle.add.specs.Add.{checkGroup}
 use Rattle.add.proofs.Growing.{group}
-use Rattle.preview.proofs.Calling.{previewed, preview-checked, used-inside, grown-accepted, room-enough, grown-table}
+use Rattle.add.proofs.Refusals.{group-fits, room-enough}
+use Rattle.preview.proofs.Calling.{previewed, preview-checked, call-refused, used-inside, grown-accepted, grown-table}
 use Rattle.preview.proofs.preview.Statement.{statement}
 use Rattle.preview.proofs.preview.Tie as tie
 
 passed : (c : tie.After-enum-told) →
     let a = c .before .before .before .before .args in checkGroup (a .used) (a .n) (a .group .now) (a .buffer .now) ≡ Passed
-passed c = sym (c .before .before .check-group .ensures) ∙ c .enum-told .given .1
+passed c = sym (room-enough _ _ _ _) ∙ sym (c .before .before .check-added .ensures) ∙ c .enum-told .given .1
 
 enough : (c : tie.After-enum-told) →
     let a = c .before .before .before .before .args in a .used + length (a .group .now) + 1 ≤ maxTable
-enough c = room-enough _ _ _ _ (passed c)
+enough c = group-fits _ _ _ _ (passed c)
 
 copy-numbers-requires : tie.Need-copy-numbers-requires
-copy-numbers-requires c κs = (omega (arith, enough (c .before)), used-inside _ _ _ _ (passed (c .before)))
+copy-numbers-requires c κs = (omega (arith, enough (c .before)), omega (arith, used-inside _ _ _ _ (passed (c .before))))
 
 store-requires : tie.Need-store-requires
 store-requires c κs =
@@ -51,11 +52,7 @@ settle-accepted-requires c κs =
     subst (Accepted _) (sym (table-is s)) (grown-accepted _ _ _ _ (passed (told s)))
 
 returns : tie.Need-returns
-returns c =
-    let k = c .before .before .before in
-    let a = k .before .before .args in
-    let p = previewed (a .used) (a .n) (a .group .now) (a .buffer .now) (a .list .now) (a .reasons .now) in
-    sym (preview-checked _ _ _ _ _ _ ∙ ap p (sym (k .check-group .ensures) ∙ c .before .checked .given .1))
+returns c = search (needs, call-refused)
 
 returns-2 : tie.Need-returns-2
 returns-2 c =
@@ -63,7 +60,7 @@ returns-2 c =
     let s = r .before .before .before .before .before in
     let a = told s .before .before .before .before .args in
     let p = previewed (a .used) (a .n) (a .group .now) (a .buffer .now) (a .list .now) (a .reasons .now) in
-    r .settle-accepted .ensures ∙ ap (λ t. settleCall (a .n) t (a .list .now) (a .reasons .now)) (table-is s) ∙ sym (preview-checked _ _ _ _ _ _ ∙ ap p (passed (told s)))
+    (r .settle-accepted .ensures ∙ ap (λ t. settleCall (a .n) t (a .list .now) (a .reasons .now)) (table-is s) ∙ sym (preview-checked _ _ _ _ _ _ ∙ ap p (passed (told s))), refl)
 
 pub preview-spec : {M : Type 1} → statement M
 preview-spec =

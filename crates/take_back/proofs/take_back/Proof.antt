@@ -1,6 +1,6 @@
 -- `take_back` meets its contract: the refusals in their order, and else the last group is cleared.
 use mathlib.Core.Path.{_≡_, sym, _∙_}
-use Prim.Native.Nat.{_+_, _-_, _<_}
+use Prim.Native.Nat.{_<_}
 use borrow.Author.Needs.{needs}
 use native.Mathlib.Omega.{arith}
 use lib.ListN.{take}
@@ -8,7 +8,7 @@ use lib.Seq.{length-take-le}
 use Rattle.receipt.specs.declared.Checked.the-variants.{Passed}
 use Rattle.theory.specs.Table.{check}
 use Rattle.theory.proofs.Tables.{accepted-closed}
-use Rattle.take_back.proofs.Calling.{call-used, call-refused, call-nothing, call-taken, some-used, start-before}
+use Rattle.take_back.proofs.Calling.{call-used, call-refused, call-nothing, call-cleared, some-used, start-before}
 use Rattle.take_back.proofs.take_back.Statement.{statement}
 use Rattle.take_back.proofs.take_back.Tie as tie
 
@@ -48,9 +48,8 @@ returns-4 c =
     let s = c .before .before .before in
     let e = s .before .before .before in
     let a = e .before .before .before .before .before .args in
-    let k : s .last-start .result + (a .used - s .last-start .result) ≡ a .used = omega (arith, before-used s) in
-    rw (c .before .clear-numbers .ensures, k, s .last-start .ensures)
-    (call-taken (a .used) (a .n) (a .buffer .now) (e .before .before .before .before .if1 .left) (passed e) (omega (arith, s .before .before .if2 .left)))
+    call-cleared (a .used) (a .n) (a .buffer .now) (e .before .before .before .before .if1 .left) (passed e) (omega (arith, s .before .before .if2 .left))
+    _ (s .last-start .ensures) _ (c .before .clear-numbers .ensures)
 
 pub take-back-spec : {M : Type 1} → statement M
 take-back-spec =
