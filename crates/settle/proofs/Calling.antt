@@ -1,10 +1,11 @@
 -- What code answers, and leaves in both lists, is the call of Settle.
 use mathlib.Core.Path.{_≡_, ap, _∙_}
 use mathlib.Core.Bool.{true, false}
-use mathlib.Core.List.{List}
-use Prim.Native.Nat.{ℕ, _<_, _≤_}
+use mathlib.Core.List.{List, _++_}
+use Prim.Native.Nat.{ℕ, _+_, _<_, _≤_}
+use native.Mathlib.Nat.{zero-add}
 use lib.IntN.{ℤ, pos as posℤ}
-use lib.ListN.{length, replicate}
+use lib.ListN.{length, drop, replicate}
 use borrow.Author.Tests.{lt-ltb, le-ltb}
 use Rattle.general.specs.Lists.{upTo}
 use Rattle.receipt.specs.declared.Fault.the-variants.{StateShort, ReasonsShort}
@@ -52,8 +53,9 @@ module _ (n : ℕ) (t l : List ℤ) (m : List ℕ) where
         unfolding settleCall
         ended e i = rw (passed, le-ltb (length l) n room, le-ltb (length m) n room′, e, i, settles, explains)
 
-        pub call-dead : r .dead ≡ true → l′ ≡ over n (replicate n (posℤ 0)) l → m′ ≡ over n (replicate n 0) m → called settling.NoLayout l′ m′ ≡ settleCall n t l m
-        call-dead d e i = rw d at ended e i
+        -- cleared from the index 0 on
+        pub call-dead : r .dead ≡ true → l′ ≡ replicate n (posℤ 0) ++ drop (0 + n) l → m′ ≡ replicate n 0 ++ drop (0 + n) m → called settling.NoLayout l′ m′ ≡ settleCall n t l m
+        call-dead d e i = rw d at ended (rw zero-add at e) (rw zero-add at i)
 
         pub call-rest : r .dead ≡ false → l′ ≡ over n (upTo (λ p. stateEntry (stateOf (r .state .values) p)) n) l → m′ ≡ over n (upTo (reasonsOf (r .reasons)) n) m →
             called settling.Settled l′ m′ ≡ settleCall n t l m

@@ -1,7 +1,6 @@
 -- `settle_accepted` meets its contract: the two lists' room, and then what propagation ends in.
 use Prim.Native.Nat.{_≤_}
 use native.Mathlib.Omega.{arith}
-use native.Mathlib.Nat.{zero-add}
 use borrow.Author.Needs.{needs}
 use Rattle.literal.specs.Literal.{maxVariables}
 use Rattle.theory.proofs.Tables.{accepted-sizes, accepted-within}
@@ -36,7 +35,7 @@ returns-3 c =
     let p = x .before in
     let h = p .before .before in
     call-dead _ _ _ _ (h .before .before .before .pre) (h .before .if1 .left) (h .if2 .left) (p .propagate .result) _ (p .propagate .ensures .0) (p .before .initial .ensures .0) _ _
-    (x .if3 .taken) (rw zero-add at (v .clear-numbers .ensures)) (rw zero-add at (w .clear-reasons .ensures))
+    (x .if3 .taken) (v .clear-numbers .ensures) (w .clear-reasons .ensures)
 
 write-state-requires : tie.Need-write-state-requires
 write-state-requires c κs =
