@@ -1,24 +1,50 @@
-// Adds groups to a buffer and reads strips into it. Each line is the answer's number, place, count and group, its values, and the buffer's eight elements, all 9
-// before the call except for the used part.
+// Adds groups to a buffer, takes groups back and reads strips into it. Each line is the answer's number, place, count and group, its values, and the buffer's eight
+// elements, all 9 before the call except for the used part.
+use receipt::Receipt;
+use trial::lists::part;
+
 fn buffer_of(buffer: &[i16]) {
     show::text(b" |");
     show::entries(buffer);
     show::text(b"\n");
 }
 
-// Adds to a buffer of which `used` elements count.
+// The answer with its used length, and so much of the buffer.
+fn show_edit(receipt: Receipt, used: usize, buffer: &[i16]) {
+    show::receipt(receipt);
+    show::text(b":");
+    show::number(used as u64);
+    buffer_of(buffer);
+}
+
+// Adds to a buffer of which `used` elements count, and gives the new used length.
+fn add_on(buffer: &mut [i16], used: usize, n: usize, group: &[i16]) -> usize {
+    let answer = add::add(buffer, used, n, group);
+    let after = answer.used();
+    show_edit(answer.receipt(), after, buffer);
+    after
+}
+
 fn add_to(before: [i16; 8], used: usize, n: usize, group: &[i16]) {
     let mut buffer = before;
-    let answer = add::add(&mut buffer, used, n, group);
-    show::receipt(answer.receipt());
-    show::text(b":");
-    show::number(answer.used() as u64);
-    buffer_of(&buffer);
+    add_on(&mut buffer, used, n, group);
 }
 
 // The buffer begins with the group [1 2 0].
 fn try_add(used: usize, n: usize, group: &[i16]) {
     add_to([1i16, 2, 0, 9, 9, 9, 9, 9], used, n, group);
+}
+
+fn take_on(buffer: &mut [i16], used: usize, n: usize) -> usize {
+    let answer = take_back::take_back(buffer, used, n);
+    let after = answer.used();
+    show_edit(answer.receipt(), after, buffer);
+    after
+}
+
+fn take_from(before: [i16; 8], used: usize, n: usize) {
+    let mut buffer = before;
+    take_on(&mut buffer, used, n);
 }
 
 fn try_read(strip: &[u8], table: &mut [i16]) {
@@ -66,6 +92,121 @@ fn unknown_adds() {
     add_to(groups, 5, 2, &[1i16, 2, 1, 3]);
     add_to(groups, 3, 2, &[3i16]);
     add_to(groups, 0, 0, &[1i16]);
+}
+
+// The only group, one with nothing in it: alone, last, after another such; a group after one with nothing in it; the second of two.
+fn take_backs() {
+    take_from([1i16, 2, 0, 9, 9, 9, 9, 9], 3, 2);
+    take_from([-1i16, 0, 9, 9, 9, 9, 9, 9], 2, 256);
+    take_from([0i16, 9, 9, 9, 9, 9, 9, 9], 1, 0);
+    take_from([1i16, 0, 0, 9, 9, 9, 9, 9], 3, 1);
+    take_from([0i16, 0, 9, 9, 9, 9, 9, 9], 2, 0);
+    take_from([0i16, 1, -2, 0, 9, 9, 9, 9], 4, 2);
+    take_from([1i16, 2, 0, 3, -1, 0, 9, 9], 6, 3);
+}
+
+// A full buffer, of two groups, of one, and of eight; then a used part that is shorter than what stands there, whatever that is.
+fn full_take_backs() {
+    take_from([1i16, 2, 0, 3, -1, 2, 1, 0], 8, 3);
+    take_from([1i16, 2, 3, 1, 2, 3, -1, 0], 8, 3);
+    take_from([0i16; 8], 8, 3);
+    take_from([1i16, 2, 0, 3, -1, 0, 2, 0], 6, 3);
+    take_from([1i16, 2, 0, 3, -1, 0, 2, 0], 3, 2);
+    take_from([1i16, 0, -32768, 9, 0, 0, 7, 3], 2, 1);
+}
+
+// Group after group until there is none.
+fn take_all_back() {
+    let mut buffer = [1i16, 2, 0, 0, -2, 0, 9, 9];
+    let two = take_on(&mut buffer, 6, 2);
+    let one = take_on(&mut buffer, two, 2);
+    let none = take_on(&mut buffer, one, 2);
+    take_on(&mut buffer, none, 2);
+}
+
+// Nothing to take back, and what comes before it; a used length past the buffer, and what comes after it.
+fn refused_take_backs() {
+    let groups = [1i16, 2, 0, 3, -1, 0, 9, 9];
+    take_from(groups, 0, 3);
+    take_from(groups, 0, 0);
+    take_from(groups, 0, 256);
+    take_from(groups, 0, 257);
+    take_on(&mut [9i16; 0], 0, 2);
+    take_on(&mut [9i16; 0], 1, 2);
+    take_from(groups, 9, 3);
+    take_from(groups, 9, 257);
+    take_from(groups, usize::MAX, 3);
+    take_from(groups, 6, 257);
+    take_from(groups, 5, 257);
+    take_from(groups, 5, 3);
+    take_from(groups, 2, 1);
+    take_from(groups, 7, 9);
+}
+
+// An unknown placement of the used part: in its last group, in one before it, in several; not past it.
+fn unknown_take_backs() {
+    let groups = [1i16, 2, 0, 3, -1, 0, 9, 9];
+    take_from(groups, 6, 2);
+    take_from(groups, 6, 1);
+    take_from(groups, 6, 0);
+    take_from(groups, 3, 1);
+    take_from([0i16, 0, 9, 0, 9, 9, 9, 9], 4, 1);
+    take_from([1i16, 0, -32768, 0, 9, 9, 9, 9], 4, 256);
+    take_from([1i16, 0, -32768, 0, 9, 9, 9, 9], 2, 256);
+}
+
+// The last ten elements of a longer buffer.
+fn take_from_long(buffer: &mut [i16], used: usize, n: usize) {
+    let answer = take_back::take_back(buffer, used, n);
+    let length = buffer.len();
+    let last = if 10 < length { length - 10 } else { 0 };
+    show_edit(answer.receipt(), answer.used(), part(buffer, last, length));
+}
+
+// 513 groups and 512, with few entries and with too many; 2,049 entries and 2,048, the first also in an open group.
+fn long_take_backs() {
+    let mut pairs = [0i16; 1539];
+    trial::limits::fill_at_rest(&mut pairs);
+    take_from_long(&mut pairs, 1539, 1);
+    take_from_long(&mut pairs, 1536, 1);
+    take_from_long(&mut pairs, 1533, 1);
+    let mut fours = [0i16; 2565];
+    trial::limits::fill(&mut fours);
+    take_from_long(&mut fours, 2565, 256);
+    take_from_long(&mut fours, 2560, 256);
+    let mut one = [1i16; 2051];
+    take_from_long(&mut one, 2049, 0);
+    one[2049] = 0;
+    take_from_long(&mut one, 2050, 0);
+    one[2048] = 0;
+    take_from_long(&mut one, 2049, 1);
+}
+
+// Adding, then taking back: the elements that the group had filled are 0.
+fn add_then_take_back() {
+    let mut buffer = [1i16, 2, 0, 9, 9, 9, 9, 9];
+    let two = add_on(&mut buffer, 3, 3, &[3i16, -1]);
+    let one = take_on(&mut buffer, two, 3);
+    let again = add_on(&mut buffer, one, 3, &[0i16; 0]);
+    let back = take_on(&mut buffer, again, 3);
+    let full = add_on(&mut buffer, back, 3, &[1i16, 2, 3, -1]);
+    add_on(&mut buffer, full, 3, &[0i16; 0]);
+    let first = take_on(&mut buffer, full, 3);
+    take_on(&mut buffer, first, 3);
+}
+
+// Taking back, then adding the same group: the buffer is as it was.
+fn take_back_then_add() {
+    let mut buffer = [1i16, 2, 0, 3, -1, 0, 9, 9];
+    let one = take_on(&mut buffer, 6, 3);
+    let two = add_on(&mut buffer, one, 3, &[3i16, -1]);
+    let back = take_on(&mut buffer, two, 3);
+    let none = take_on(&mut buffer, back, 3);
+    let first = add_on(&mut buffer, none, 3, &[1i16, 2]);
+    add_on(&mut buffer, first, 3, &[3i16, -1]);
+    let mut empty = [1i16, 0, 0, 9, 9, 9, 9, 9];
+    let left = take_on(&mut empty, 3, 1);
+    add_on(&mut empty, left, 1, &[0i16; 0]);
 }
 
 fn reads() {
@@ -152,6 +293,14 @@ fn unnamed_short() {
 fn main() {
     adds();
     unknown_adds();
+    take_backs();
+    full_take_backs();
+    take_all_back();
+    refused_take_backs();
+    unknown_take_backs();
+    long_take_backs();
+    add_then_take_back();
+    take_back_then_add();
     reads();
     unknown_reads();
     short_reads();

@@ -35,3 +35,21 @@ pub fn fill_at_rest(table: &mut [i16]) {
         put_entry(table, i, element_at_rest(i));
     }
 }
+
+fn element_alike(i: usize) -> i16 {
+    let place = i % GROUP;
+    match place {
+        0 => 1,
+        1 => 2,
+        2 => 3,
+        3 => 4,
+        _ => 0,
+    }
+}
+
+// Groups of the same four entries, which it leaves too.
+pub fn fill_alike(table: &mut [i16]) {
+    for i in 0..table.len() {
+        put_entry(table, i, element_alike(i));
+    }
+}

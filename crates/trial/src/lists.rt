@@ -104,6 +104,13 @@ pub fn clear_entries(list: &mut [i16], n: usize) {
     }
 }
 
+// From one index up to another.
+pub fn clear_from(list: &mut [i16], from: usize, to: usize) {
+    for i in from..to {
+        put_entry(list, i, 0);
+    }
+}
+
 pub fn clear_numbers(list: &mut [u16], n: usize) {
     for i in 0..n {
         put_number(list, i, 0);
@@ -115,6 +122,15 @@ pub fn put_bytes(list: &mut [u8], from: usize, bytes: &[u8], count: usize) -> us
     let mut at = from;
     for i in 0..count {
         at = put_byte(list, at, byte_at(bytes, i));
+    }
+    at
+}
+
+// The elements of another list, and the next index.
+pub fn put_entries(list: &mut [i16], from: usize, entries: &[i16]) -> usize {
+    let mut at = from;
+    for i in 0..entries.len() {
+        at = put_entry(list, at, entry_at(entries, i));
     }
     at
 }

@@ -7,7 +7,7 @@ use super::settled::forms_of;
 use std::num::wrapping_add_usize;
 
 // The numbers on the receipt are below this one.
-const NUMBERS: usize = 28;
+const NUMBERS: usize = 29;
 
 // So are the rules of settling below this one.
 const RULES: usize = 9;
@@ -144,6 +144,11 @@ impl Tally {
     pub fn show_splits(self) {
         line(b"splits", self.sum);
         line(b"most splits", self.most);
+    }
+
+    // What was measured, added up, under a name.
+    pub fn show_sum(self, name: &[u8]) {
+        line(name, self.sum);
     }
 
     pub fn show_strips(self, name: &[u8]) {

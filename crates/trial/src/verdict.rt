@@ -7,6 +7,8 @@ use super::lists::size;
 use super::receipts::plain;
 use super::receipts::refusal;
 use receipt::Receipt;
+use std::num::wrapping_add_usize;
+use std::num::wrapping_sub_usize;
 
 pub const MAX_VARIABLES: usize = 256;
 
@@ -177,8 +179,8 @@ pub fn of_table(table: &[i16], n: usize) -> Verdict {
     Verdict::Passes
 }
 
-// "2 and 3 with the group added (each element of the list counts as an entry), 5 on the list (place u plus its index there), 23"
-fn of_clause(used: &[i16], n: usize, clause: &[i16], room: usize) -> Verdict {
+// "2 and 3 with the group added (each element of the list counts as an entry), 5 on the list (place u plus its index there)"
+fn of_clause(used: &[i16], n: usize, clause: &[i16]) -> Verdict {
     let number = clause_at(used, used.len());
     if MAX_CLAUSES < number {
         return refused(2);
@@ -188,23 +190,39 @@ fn of_clause(used: &[i16], n: usize, clause: &[i16], room: usize) -> Verdict {
     }
     let i = first_unknown(clause, n, false);
     if i < clause.len() {
-        return unknown(std::num::wrapping_add_usize(used.len(), i), number);
-    }
-    if room <= clause.len() {
-        return refused(23);
+        return unknown(wrapping_add_usize(used.len(), i), number);
     }
     Verdict::Passes
 }
 
-// "Add: 12, then 1 to 5 on the used part", and the rest.
-pub fn of_added(buffer: &[i16], used: usize, n: usize, clause: &[i16]) -> Verdict {
+// "12, then 1 to 5 on the used part"
+fn of_used(buffer: &[i16], used: usize, n: usize) -> Verdict {
     if buffer.len() < used {
         return refused(12);
     }
-    let before = part(buffer, 0, used);
-    let verdict = of_table(before, n);
+    of_table(part(buffer, 0, used), n)
+}
+
+// "add's refusals without 23"
+pub fn of_previewed(buffer: &[i16], used: usize, n: usize, clause: &[i16]) -> Verdict {
+    let verdict = of_used(buffer, used, n);
     if verdict.passes() {
-        return of_clause(before, n, clause, buffer.len() - used);
+        return of_clause(part(buffer, 0, used), n, clause);
+    }
+    verdict
+}
+
+// And 23, where the list and its 0 find no room.
+pub fn of_added(buffer: &[i16], used: usize, n: usize, clause: &[i16]) -> Verdict {
+    let room = wrapping_sub_usize(buffer.len(), used);
+    of_previewed(buffer, used, n, clause).then_room(room, more(clause.len()), 23)
+}
+
+// "taking back has 12, 1 to 5, then 28, nothing to take back, when there is no group"
+pub fn of_taken_back(buffer: &[i16], used: usize, n: usize) -> Verdict {
+    let verdict = of_used(buffer, used, n);
+    if verdict.passes() && count(part(buffer, 0, used), true) == 0 {
+        return refused(28);
     }
     verdict
 }

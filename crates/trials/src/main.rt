@@ -2,6 +2,7 @@
 // slow reader, a plain writer. For each operation the program prints how many answers of each number there were, and how many were not as expected.
 mod add_trial;
 mod check_trial;
+mod edit_trial;
 mod index_trial;
 mod list_trial;
 mod read_trial;
@@ -25,6 +26,7 @@ enum Operation {
     Save,
     SaveAgain,
     List,
+    Edit,
 }
 
 fn tried(operation: Operation, number: usize, tally: Tally) -> Tally {
@@ -42,6 +44,7 @@ fn tried(operation: Operation, number: usize, tally: Tally) -> Tally {
         Operation::Save => save_trial::tried(filing, formula, &mut seed, tally),
         Operation::SaveAgain => save_trial::tried_again(filing, formula, &mut seed, tally),
         Operation::List => list_trial::tried(filing, formula, &mut seed, tally),
+        Operation::Edit => edit_trial::tried(filing, formula, &mut seed, tally),
     }
 }
 
@@ -152,6 +155,20 @@ fn list_all() -> usize {
     tally.disagreements
 }
 
+// So many calls of the three in any order, for each filing, on one buffer.
+fn edit_all() -> usize {
+    show::text(b"add, preview and take back\n");
+    let tally = tally_of(Operation::Edit);
+    tally.show(b"previews settled", 13);
+    tally.show(b"dead ends", 10);
+    tally.show_sum(b"previews without room to add");
+    tally.show(b"groups added", 15);
+    tally.show(b"groups taken back", 18);
+    tally.show_refused(&[12u8, 1, 2, 3, 4, 5, 14, 19, 23, 28]);
+    tally.show_disagreements();
+    tally.disagreements
+}
+
 fn main() {
     show::text(b"filings");
     show::number(FILINGS as u64);
@@ -165,7 +182,8 @@ fn main() {
     let save = wrapping_add_usize(read, save_all());
     let again = wrapping_add_usize(save, save_again_all());
     let list = wrapping_add_usize(again, list_all());
+    let edit = wrapping_add_usize(list, edit_all());
     show::text(b"all disagreements");
-    show::number(list as u64);
+    show::number(edit as u64);
     show::text(b"\n");
 }

@@ -13,12 +13,12 @@ use trial::tally::Tally;
 use trial::verdict::Verdict;
 
 // The elements of the state list and the reason list that are lent.
-struct Rooms {
-    list: usize,
-    reasons: usize,
+pub struct Rooms {
+    pub list: usize,
+    pub reasons: usize,
 }
 
-fn run_of(table: &[i16], n: usize, rooms: Rooms) -> Run {
+pub fn run_of(table: &[i16], n: usize, rooms: Rooms) -> Run {
     let mut list = [9i16; ROOM];
     let mut reasons = [9u16; ROOM];
     let list_room = at_most(rooms.list, ROOM);
@@ -72,13 +72,24 @@ fn refused(table: &[i16], n: usize, rooms: Rooms, verdict: Verdict, tally: Tally
     tally.judged(run.receipt.number, same_run(run, untouched), table, n)
 }
 
+pub fn any_rooms(n: usize, seed: &mut u64) -> Rooms {
+    Rooms {
+        list: room_of(seed, n, ROOM),
+        reasons: room_of(seed, n, ROOM),
+    }
+}
+
+// Refused with 14 or 19 besides, where a list is short.
+pub fn with_rooms(verdict: Verdict, rooms: Rooms, n: usize) -> Verdict {
+    verdict
+        .then_room(rooms.list, n, 14)
+        .then_room(rooms.reasons, n, 19)
+}
+
 pub fn tried(table: &[i16], formula: Formula, seed: &mut u64, tally: Tally) -> Tally {
     let n = formula.n;
-    let list = room_of(seed, n, ROOM);
-    let reasons = room_of(seed, n, ROOM);
-    let checked = trial::verdict::of_table(table, n);
-    let verdict = checked.then_room(list, n, 14).then_room(reasons, n, 19);
-    let rooms = Rooms { list, reasons };
+    let rooms = any_rooms(n, seed);
+    let verdict = with_rooms(trial::verdict::of_table(table, n), rooms, n);
     if verdict.passes() {
         return accepted(table, formula, rooms, tally);
     }
