@@ -7,7 +7,7 @@
 #     bench/run.sh --stack                  the least stack, in KB, on which the layout program walks its deepest tree
 #     bench/run.sh --compare [WORD...]      only compares, WORDs as bench/compare.cpp says
 #     bench/run.sh --keystroke              what one element more costs beside a whole check of a table at the limits, in one line; it builds only what this needs
-#     bench/run.sh --settle                 what one Settle costs on each filing of bench/filings.py, and on which the most; it builds only what this needs
+#     bench/run.sh --settle                 what one Settle costs on each filing of bench/filings.py, and one Preview of its last group; it builds only what this needs
 #     bench/run.sh --list                   compares List on random filings, and what it costs on those of bench/filings.py for it; it builds only what this needs
 #
 # OPTIONs (bench/table.py): --allowance N, --seconds S for the library on one filing, --limit S for a whole run, --reference PROGRAM (or REFERENCE in the environment).

@@ -78,7 +78,7 @@ fn check_group(buffer: &[i16], used: usize, n: usize, group: &[i16]) -> Checked
     first_refusal(used_part, first_refusal(limits, unknown))
 }
 
-// All of Add's checks, 23 last, where the table has room for so many elements.
+// All of Add's checks, 23 last, for a table that has room for `room` elements.
 pub fn check_added(buffer: &[i16], used: usize, n: usize, group: &[i16], room: usize) -> Checked
     ensures { λ r. ⌜ r ≡ checkAdded used n (now (group .entry)) (now (buffer .entry)) room ⌝ }
 {
