@@ -17,23 +17,23 @@ use Rattle.theory.proofs.Tables.{zeros-append, nonzeros-append, length-elements
 use Rattle.add.specs.Addable.{Follows}
 
 -- the list with its closing 0
-abbrev pub group : List ℤ → List ℤ
-group g = g ++ (posℤ 0 ∷ [])
+abbrev pub withZero : List ℤ → List ℤ
+withZero g = g ++ (posℤ 0 ∷ [])
 
-pub group-long : (g : List ℤ) → length (group g) ≡ length g + 1
-group-long g = length-append g _
+with-zero-long : (g : List ℤ) → length (withZero g) ≡ length g + 1
+with-zero-long g = length-append g _
 
 module _ {n : ℕ} {t g : List ℤ} (a : Follows n t g) where
   entries : (e : ℤ) → List·Memᴰ e g → 0 < natAbs e
   entries e m = a .known e m .0
 
-  pub grown-limits : WithinLimits n (t ++ group g)
+  pub grown-limits : WithinLimits n (t ++ withZero g)
   unfolding zeros nonzeros endsOpen
   grown-limits = record {
     variables = a .within .variables;
-    clauses = omega (arith, zeros-append t (group g), zeros-append g (posℤ 0 ∷ []), no-zeros g entries, a .clauses);
-    literals = omega (arith, nonzeros-append t (group g), nonzeros-append g (posℤ 0 ∷ []), length-elements g, no-zeros g entries, a .literals);
-    ends = closed-ends (t ++ group g) (endsOpen-append false t (group g) ∙ endsOpen-append (endsOpen false t) g (posℤ 0 ∷ []));
+    clauses = omega (arith, zeros-append t (withZero g), zeros-append g (posℤ 0 ∷ []), no-zeros g entries, a .clauses);
+    literals = omega (arith, nonzeros-append t (withZero g), nonzeros-append g (posℤ 0 ∷ []), length-elements g, no-zeros g entries, a .literals);
+    ends = closed-ends (t ++ withZero g) (endsOpen-append false t (withZero g) ∙ endsOpen-append (endsOpen false t) g (posℤ 0 ∷ []));
     known = λ e m. ⊎-elim (a .within .known e) (λ k. ⊎-elim
         (λ j. a .known e j .1)
         (λ j. let q : e ≡ posℤ 0 = List·Memᴰ·eq-of-singleton j in rw q zero-le)
@@ -41,19 +41,19 @@ module _ {n : ℕ} {t g : List ℤ} (a : Follows n t g) where
   }
 
   -- the list is the last group of it
-  pub grown-last : Last (t ++ group g) t g
+  pub grown-last : Last (t ++ withZero g) t g
   grown-last = record { whole = refl; closed = accepted-closed n t (accepted-exactly n t .1 (a .within)); no-zeros = no-zeros g entries }
 
-  pub grown-clauses : clauses (t ++ group g) ≡ clauses t ++ (map literalOf g ∷ [])
+  pub grown-clauses : clauses (t ++ withZero g) ≡ clauses t ++ (map literalOf g ∷ [])
   grown-clauses = last-clauses grown-last
 
 -- and back: what stands before the last group of a table may be followed by that group's elements
 module _ {n : ℕ} {t s g : List ℤ} (w : WithinLimits n t) (l : Last t s g) where
   literals-sum : nonzeros t ≡ nonzeros s + length g
   unfolding nonzeros
-  literals-sum = rw (l .whole) (omega (arith, nonzeros-append s (group g), nonzeros-append g (posℤ 0 ∷ []), length-elements g, l .no-zeros))
+  literals-sum = rw (l .whole) (omega (arith, nonzeros-append s (withZero g), nonzeros-append g (posℤ 0 ∷ []), length-elements g, l .no-zeros))
 
-  known-in : (e : ℤ) → List·Memᴰ e (s ++ group g) → natAbs e ≤ n
+  known-in : (e : ℤ) → List·Memᴰ e (s ++ withZero g) → natAbs e ≤ n
   known-in e m = w .known e (rw (l .whole) m)
 
   pub shrunk-follows : Follows n s g
@@ -75,23 +75,23 @@ module _ (u : ℕ) (g b : List ℤ) (h : u ≤ length b) where
   used-long : length (take u b) ≡ u
   used-long = length-take-le u b h
 
-  whole : added u g b ≡ (take u b ++ group g) ++ drop (u + length g + 1) b
-  whole = rw (append-assoc (take u b) (group g), append-assoc g)
+  whole : added u g b ≡ (take u b ++ withZero g) ++ drop (u + length g + 1) b
+  whole = rw (append-assoc (take u b) (withZero g), append-assoc g)
 
-  long : length (take u b ++ group g) ≡ u + length g + 1
-  long = omega (arith, length-append (take u b) (group g), used-long, group-long g)
+  long : length (take u b ++ withZero g) ≡ u + length g + 1
+  long = omega (arith, length-append (take u b) (withZero g), used-long, with-zero-long g)
 
-  pub added-table : take (u + length g + 1) (added u g b) ≡ take u b ++ group g
-  added-table = rw whole (take-at (take u b ++ group g) _ _ long)
+  pub added-table : take (u + length g + 1) (added u g b) ≡ take u b ++ withZero g
+  added-table = rw whole (take-at (take u b ++ withZero g) _ _ long)
 
   pub added-before : take u (added u g b) ≡ take u b
   added-before = take-at (take u b) _ u used-long
 
-  pub added-list : drop u (take (u + length g + 1) (added u g b)) ≡ group g
+  pub added-list : drop u (take (u + length g + 1) (added u g b)) ≡ withZero g
   added-list = rw added-table (drop-at (take u b) _ u used-long)
 
   pub added-after : drop (u + length g + 1) (added u g b) ≡ drop (u + length g + 1) b
-  added-after = rw whole (drop-at (take u b ++ group g) _ _ long)
+  added-after = rw whole (drop-at (take u b ++ withZero g) _ _ long)
 
   pub added-length : u + length g + 1 ≤ length b → length (added u g b) ≡ length b
-  added-length room = omega (arith, ap length whole, length-append (take u b ++ group g) (drop (u + length g + 1) b), long, length-drop (u + length g + 1) b)
+  added-length room = omega (arith, ap length whole, length-append (take u b ++ withZero g) (drop (u + length g + 1) b), long, length-drop (u + length g + 1) b)

@@ -168,7 +168,7 @@ pub checked-alike : (u n : ℕ) (g b c : List ℤ) → u ≤ length b → u ≤ 
 unfolding checkGroup
 checked-alike u n g b c h k e = rw (le-ltb (length b) u h, le-ltb (length c) u k, e)
 
--- and refuse with 12 or a number of 1 to 5
+-- and the numbers that they refuse with are at most 12
 pub group-refuses : (u n : ℕ) (g b : List ℤ) → NumberAtMost 12 (checkGroup u n g b)
 unfolding checkGroup unknownIn
 group-refuses u n g b =

@@ -1,5 +1,5 @@
-// Adds groups to a buffer, takes groups back and reads strips into it. Each line is the answer's number, place, count and group, its values, and the buffer's eight
-// elements, all 9 before the call except for the used part.
+// Adds groups to a buffer, takes groups back and reads strips into it. Each line is the answer's number, place, count and group, its values, and the buffer after the
+// call, of a long one its last ten elements. Where nothing else is said the buffer has eight elements, 9 past the used part.
 use receipt::Receipt;
 use trial::lists::part;
 
@@ -155,12 +155,12 @@ fn unknown_take_backs() {
     take_from([1i16, 0, -32768, 0, 9, 9, 9, 9], 2, 256);
 }
 
-// The last ten elements of a longer buffer.
+// Shows the last ten elements of a longer buffer.
 fn take_from_long(buffer: &mut [i16], used: usize, n: usize) {
     let answer = take_back::take_back(buffer, used, n);
     let length = buffer.len();
-    let last = if 10 < length { length - 10 } else { 0 };
-    show_edit(answer.receipt(), answer.used(), part(buffer, last, length));
+    let from = if 10 < length { length - 10 } else { 0 };
+    show_edit(answer.receipt(), answer.used(), part(buffer, from, length));
 }
 
 // 513 groups and 512, with few entries and with too many; 2,049 entries and 2,048, the first also in an open group.

@@ -19,14 +19,14 @@ use Rattle.theory.specs.Table.{Accepted}
 use Rattle.theory.proofs.Tables.{accepted-exactly}
 use Rattle.add.specs.Add.{checkGroup, checkAdded}
 use Rattle.add.specs.Addable.{Follows}
-use Rattle.add.proofs.Growing.{group, grown-limits, added-table}
+use Rattle.add.proofs.Growing.{withZero, grown-limits, added-table}
 use Rattle.add.proofs.Refusals.{call-checked, checked-exactly, checked-alike, room-enough}
 
 module _ (u n : ℕ) (g b l : List ℤ) (m : List ℕ) where
   -- unless the checks refuse, Settle of the used part with the list and its 0
   abbrev pub previewed : Checked → SettleCall
   previewed (Refused r) = settleRefused r l m
-  previewed Passed = settleCall n (take u b ++ group g) l m
+  previewed Passed = settleCall n (take u b ++ withZero g) l m
 
   -- a copy with room enough has the same used part
   long : length (withRoom g b) ≡ length b + (length g + 1)
@@ -44,7 +44,7 @@ module _ (u n : ℕ) (g b l : List ℤ) (m : List ℕ) where
     by-checks (Refused r) e = rw (le-ltb (length b) u h, call-checked (withRoom g b) u n g, copy-checked, e)
     by-checks Passed e =
         rw (le-ltb (length b) u h, call-checked (withRoom g b) u n g, copy-checked, e, le-ltb (length (withRoom g b)) (u + length g + 1) (omega (arith, long)))
-        (ap (λ t. settleCall n t l m) (added-table u g (withRoom g b) (omega (arith, long)) ∙ ap (λ t. t ++ group g) used-alike))
+        (ap (λ t. settleCall n t l m) (added-table u g (withRoom g b) (omega (arith, long)) ∙ ap (λ t. t ++ withZero g) used-alike))
 
   -- a preview goes by Add's checks, without the room
   pub preview-checked : previewCall u n g b l m ≡ previewed (checkGroup u n g b)
@@ -66,11 +66,11 @@ module _ (u n : ℕ) (g b : List ℤ) (passed : checkGroup u n g b ≡ Passed) w
   follows : Follows n (take u b) g
   follows = checked-exactly u n g b .0 passed .1
 
-  pub grown-accepted : Accepted n (take u b ++ group g)
-  grown-accepted = accepted-exactly n (take u b ++ group g) .1 (grown-limits follows)
+  pub grown-accepted : Accepted n (take u b ++ withZero g)
+  grown-accepted = accepted-exactly n (take u b ++ withZero g) .1 (grown-limits follows)
 
-  pub grown-table : (z c d : List ℤ) → c ≡ take u b ++ drop (0 + u) z → d ≡ added u g c → take (u + length g + 1) d ≡ take u b ++ group g
+  pub grown-table : (z c d : List ℤ) → c ≡ take u b ++ drop (0 + u) z → d ≡ added u g c → take (u + length g + 1) d ≡ take u b ++ withZero g
   grown-table z c d e i =
       let k : length (take u b) ≡ u = length-take-le u b used-inside in
       let inside : u ≤ length c = omega (arith, ap length e, length-append (take u b) (drop (0 + u) z), k) in
-      ap (take (u + length g + 1)) i ∙ added-table u g c inside ∙ ap (λ t. t ++ group g) (ap (take u) e ∙ take-at (take u b) (drop (0 + u) z) u k)
+      ap (take (u + length g + 1)) i ∙ added-table u g c inside ∙ ap (λ t. t ++ withZero g) (ap (take u) e ∙ take-at (take u b) (drop (0 + u) z) u k)

@@ -1,7 +1,7 @@
 -- What a call of Preview promises, by its number on the receipt and both lists after it. All of it follows from the equation that `preview` ensures.
 use mathlib.Core.Path.{_≡_, refl, ap, sym, subst, _∙_}
 use mathlib.Core.Logic.{_⊎_, inl, inr, ⊎-elim, _↔_, _≢_}
-use mathlib.Core.List.{List, [], _++_, map}
+use mathlib.Core.List.{List, [], _∷_, _++_, map}
 use Prim.Native.Nat.{ℕ, suc, _+_, _<_, _≤_}
 use native.Mathlib.Decide.{decLt}
 use native.Mathlib.Omega.{arith}
@@ -9,7 +9,6 @@ use borrow.Author.Tests.{ltb-true, le-ltb}
 use lib.Dec.{ltb}
 use lib.IntN.{ℤ, pos as posℤ}
 use lib.ListN.{length, getD, take, drop}
-use lib.Seq.{getD-at}
 use Rattle.general.specs.Booleans.{cond-ind}
 use Rattle.general.specs.Lists.{mem-getD}
 use Rattle.literal.specs.Literal.{literalOf}
@@ -27,15 +26,15 @@ use Rattle.receipt.specs.Answers.{addingReceipt, settlingReceipt}
 use Rattle.receipt.proofs.Numbers.{not-refused}
 use Rattle.theory.specs.Calls.{SettleCall, settleCall, AddCall, addKnown, addCall, settleAfter, previewCall}
 use Rattle.theory.specs.Formula.{clauses}
+use Rattle.theory.specs.Reasons.{SettledBy}
 use Rattle.theory.specs.Table.{zeros, WithinLimits}
 use Rattle.theory.specs.Unknown.{UnknownInAdd, Names}
-use Rattle.theory.proofs.Heads.{clauses-zeros}
 use Rattle.theory.proofs.LastGroup.{last-zeros}
 use Rattle.settle.specs.Settle.{called}
 use Rattle.settle.proofs.Promises as settles
 use Rattle.add.specs.Add as add
 use Rattle.add.specs.Addable.{Follows}
-use Rattle.add.proofs.Growing.{group, grown-limits, grown-last, grown-clauses, added-table}
+use Rattle.add.proofs.Growing.{withZero, grown-limits, grown-last, grown-clauses, added-table}
 use Rattle.add.proofs.Refusals.{unlessRefused, call-checked, checked-exactly, checked-alike, group-refuses}
 use Rattle.add.proofs.Unknown.{call-names}
 use Rattle.add.proofs.Promises as adds
@@ -50,7 +49,7 @@ NotRefused r = (w : Refusal) → ¬ (r ≡ settling.Refused w)
 
 -- the table that Add would make
 abbrev pub grown : ℕ → List ℤ → List ℤ → List ℤ
-grown u g b = take u b ++ group g
+grown u g b = take u b ++ withZero g
 
 -- Of the definitions: a preview is Settle of the used part that Add leaves in any copy with room enough. ------------------
 
@@ -64,7 +63,7 @@ module _ (u n : ℕ) (g b c l : List ℤ) (m : List ℕ) (in-buffer : u ≤ leng
     where
       go : (k : Checked) → previewed u n g c l m k ≡ previewed u n g b l m k
       go (Refused w) = refl
-      go Passed = ap (λ t. settleCall n (t ++ group g) l m) alike
+      go Passed = ap (λ t. settleCall n (t ++ withZero g) l m) alike
 
   pub preview-any-copy : u + length g + 1 ≤ length c → let a = addCall u n g c in previewCall u n g b l m ≡ settleAfter (a .answer) n (a .buffer) l m
   preview-any-copy room = preview-checked u n g b l m ∙ go (add.checkGroup u n g b) refl
@@ -73,7 +72,7 @@ module _ (u n : ℕ) (g b c l : List ℤ) (m : List ℕ) (in-buffer : u ≤ leng
       go (Refused w) e = rw (call-checked c u n g, checks-alike, e)
       go Passed e =
           rw (call-checked c u n g, checks-alike, e, le-ltb (length c) (u + length g + 1) room)
-          (ap (λ t. settleCall n t l m) (sym (added-table u g c in-copy ∙ ap (λ t. t ++ group g) alike)))
+          (ap (λ t. settleCall n t l m) (sym (added-table u g c in-copy ∙ ap (λ t. t ++ withZero g) alike)))
 
 -- the two ways in which a call ends: Add's checks refuse, or it is a call of Settle -------------------------------------
 
@@ -180,25 +179,27 @@ module _ {u n : ℕ} {g b l : List ℤ} {m : List ℕ} {r : Settling} {l′ : Li
           (λ k. ⊎-elim (λ (j : faults.numberOf (w .fault) ≡ 14). omega (arith, q)) (λ (j : faults.numberOf (w .fault) ≡ 19). omega (arith, q)) k)
           (refused-by w e)
 
-  -- and apart from 23, and from the two lists that Add isn't lent, it refuses what a call of Add on the same buffer refuses, and alike
-  pub preview-as-add : {a : Adding} {d : List ℤ} → adds.Call u n g b a d → (w : Refusal) →
-      faults.numberOf (w .fault) ≢ 14 → faults.numberOf (w .fault) ≢ 19 → faults.numberOf (w .fault) ≢ 23 → (r ≡ settling.Refused w) ↔ (a ≡ adding.Refused w)
-  preview-as-add {a} e w x y z = (
-    λ q. ⊎-elim (λ k. answers ∙ rw k) (λ k. absurd (⊎-elim x y k)) (refused-by w q),
-    λ q. go (add.checkGroup u n g b) refl (sym answers ∙ q),
-  )
-    where
-      answers : a ≡ unlessRefused b (add.checkGroup u n g b) (addKnown Passed u g b) .answer
-      answers = ap (λ (s : AddCall). s .answer) (e .is ∙ call-checked b u n g)
+  -- beside a call of Add on the same buffer
+  module _ {a : Adding} {d : List ℤ} (e : adds.Call u n g b a d) (w : Refusal) where
+    answers : a ≡ unlessRefused b (add.checkGroup u n g b) (addKnown Passed u g b) .answer
+    answers = ap (λ (s : AddCall). s .answer) (e .is ∙ call-checked b u n g)
 
-      not-known : addKnown Passed u g b .answer ≢ adding.Refused w
-      not-known = cond-ind (λ (s : AddCall). s .answer ≢ adding.Refused w) _ _ (ltb (length b) (u + length g + 1))
-          (λ _ q. let k : refusal TableShort 0 ≡ w = cc in z (rw (← k)))
-          (λ _ q. let k : _≡_ {A = ℕ} 0 1 = cc in omega arith)
+    -- what Add refuses is refused alike, 23 apart
+    pub preview-as-add : faults.numberOf (w .fault) ≢ 23 → a ≡ adding.Refused w → r ≡ settling.Refused w
+    preview-as-add z q = go (add.checkGroup u n g b) refl (sym answers ∙ q)
+      where
+        not-known : addKnown Passed u g b .answer ≢ adding.Refused w
+        not-known = cond-ind (λ (s : AddCall). s .answer ≢ adding.Refused w) _ _ (ltb (length b) (u + length g + 1))
+            (λ _ q. let k : refusal TableShort 0 ≡ w = cc in z (rw (← k)))
+            (λ _ q. let k : _≡_ {A = ℕ} 0 1 = cc in omega arith)
 
-      go : (k : Checked) → add.checkGroup u n g b ≡ k → unlessRefused b k (addKnown Passed u g b) .answer ≡ adding.Refused w → r ≡ settling.Refused w
-      go (Refused v) k q = ap (λ (s : SettleCall). s .answer) (c .is ∙ preview-checked u n g b l m) ∙ rw k (let j : v ≡ w = cc in ap settling.Refused j)
-      go Passed k q = absurd (not-known q)
+        go : (k : Checked) → add.checkGroup u n g b ≡ k → unlessRefused b k (addKnown Passed u g b) .answer ≡ adding.Refused w → r ≡ settling.Refused w
+        go (Refused v) k q = ap (λ (s : SettleCall). s .answer) (c .is ∙ preview-checked u n g b l m) ∙ rw k (let j : v ≡ w = cc in ap settling.Refused j)
+        go Passed k q = absurd (not-known q)
+
+    -- and what a preview refuses, but for the two lists that Add isn't lent, Add refuses alike
+    pub add-as-preview : faults.numberOf (w .fault) ≢ 14 → faults.numberOf (w .fault) ≢ 19 → r ≡ settling.Refused w → a ≡ adding.Refused w
+    add-as-preview x y q = ⊎-elim (λ k. answers ∙ rw k) (λ k. absurd (⊎-elim x y k)) (refused-by w q)
 
   -- A2: 5 is for the first unknown placement of the used part, or for the first wrong element of the list, with its group; "for all other numbers it is 0"
   pub preview-names : Names (UnknownInAdd n (take u b) g) (settlingReceipt r)
@@ -216,12 +217,18 @@ module _ {u n : ℕ} {g b l : List ℤ} {m : List ℕ} {r : Settling} {l′ : Li
       go (refused w e) = rw e at of-add
       go (settled h f s) = let k = other (grown-limits f) s in record { unknown = λ q. absurd (k q); others = settles.settle-names s .others }
 
-  -- the number of the list as a group, on the reason list too: the groups of the used part plus one
-  pub preview-group-number : Follows n (take u b) g → getD (clauses (grown u g b)) (zeros (take u b)) [] ≡ map literalOf g
-  preview-group-number f = rw (grown-clauses f) (getD-at (clauses (take u b)) (map literalOf g) [] [] (zeros (take u b)) (clauses-zeros (take u b)))
+  -- 13: where a placement isn't open its reason is the group that settled or tied it, the list being the last of the groups, with the number after those of the used part
+  module _ (settled-is : numberOf r ≡ 13) (i : ℕ) (h : i < n) (not-open : getD l′ i (posℤ 0) ≢ posℤ (suc i)) where
+    accepted : Previewable u n g b l m
+    accepted = preview-accepts .0 (λ w e. not-refused (w .fault) 13 refl (sym (ap numberOf e) ∙ settled-is))
 
-  pub preview-reason-between : numberOf r ≡ 13 → (i : ℕ) → i < n → getD l′ i (posℤ 0) ≢ posℤ (suc i) → (1 ≤ getD m′ i 0) × (getD m′ i 0 ≤ zeros (take u b) + 1)
-  preview-reason-between q i h k =
-      let p = preview-accepts .0 (λ w e. not-refused (w .fault) 13 refl (sym (ap numberOf e) ∙ q)) in
-      let w = settles.settle-reason-between (preview-settles (p .used) (p .follows)) q i h k in
-      (w .0, omega (arith, w .1, last-zeros (grown-last (p .follows))))
+    as-settle : settles.Call n (grown u g b) l m r l′ m′
+    as-settle = preview-settles (accepted .used) (accepted .follows)
+
+    pub preview-reason-named : SettledBy (clauses (take u b) ++ (map literalOf g ∷ [])) (suc i) (getD m′ i 0)
+    preview-reason-named = rw (← grown-clauses (accepted .follows)) (settles.settle-reason-named as-settle settled-is i h not-open)
+
+    pub preview-reason-between : (1 ≤ getD m′ i 0) × (getD m′ i 0 ≤ zeros (take u b) + 1)
+    preview-reason-between =
+        let w = settles.settle-reason-between as-settle settled-is i h not-open in
+        (w .0, omega (arith, w .1, last-zeros (grown-last (accepted .follows))))

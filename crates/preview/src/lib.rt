@@ -6,7 +6,7 @@ use literal::Literal;
 use receipt::Checked;
 use receipt::Settling;
 
-// What is settled is a copy with the group added. It has the elements of the longest table, so no group that passes the other checks is short of room.
+// What is settled is a copy with the group added. It has as many elements as the longest table, so no group that passes the other checks is short of room.
 pub fn preview(
     buffer: &[i16],
     used: usize,

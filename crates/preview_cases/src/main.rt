@@ -251,7 +251,7 @@ fn rooms() {
 }
 
 // 513 groups in the used part, 512, which leave none for the list, and 511; the last group's number takes more than a byte. A list with too many entries comes after
-// too many groups, and one with a zero after both.
+// too many groups, one with a zero after both, and an unknown placement of the used part before all.
 fn try_pairs(pairs: &[i16]) {
     try_one(pairs, 1539, 2, &[1i16, 2]);
     try_one(pairs, 1536, 2, &[1i16, 2]);

@@ -33,7 +33,7 @@ use Rattle.theory.proofs.LastGroup.{Last, last-found, last-clauses, last-zeros,
 use Rattle.theory.proofs.Tables.{length-elements, accepted-exactly, accepted-closed, accepted-sizes, check-refuses}
 use Rattle.theory.proofs.Unknown.{none-named, refusal-names, check-unknown}
 use Rattle.add.specs.Addable.{Addable}
-use Rattle.add.proofs.Growing.{group, shrunk-follows, grown-limits, grown-last, added-table, added-before, added-after, added-length}
+use Rattle.add.proofs.Growing.{withZero, shrunk-follows, grown-limits, grown-last, added-table, added-before, added-after, added-length}
 use Rattle.add.proofs.Promises as adds
 use Rattle.take_back.specs.TakeBack.{called}
 use Rattle.take_back.specs.Taken.{Takeable, Taken, Restored, AddedBack}
@@ -70,7 +70,7 @@ way {u} {n} {b} c = subst (By u n b) (sym (c .is))
         let z = zeros (take u b) in
         cond-ind (By u n b) _ _ (eqb z 0)
         (λ k. nothing h (accepted-sizes n (take u b) e) (eqb-true z 0 k))
-        (λ k. let some = eqb-false z 0 k in taken (record { used = h; within = accepted-sizes n (take u b) e; group = omega (arith, some) }))
+        (λ k. let not-none = eqb-false z 0 k in taken (record { used = h; within = accepted-sizes n (take u b) e; some = omega (arith, not-none) }))
 
 -- the used part and its last group -----------------------------------------------------------------------------------
 
@@ -88,7 +88,7 @@ module _ {u n : ℕ} {b : List ℤ} (a : Takeable u n b) where
   used-long = length-take-le u b (a .used)
 
   some : 0 < length t
-  some = omega (arith, length-elements t, a .group)
+  some = omega (arith, length-elements t, a .some)
 
   is-last : Last t (take v t) (lastGroup t)
   is-last = last-found t (accepted-closed n t (accepted-exactly n t .1 (a .within))) some
@@ -139,7 +139,7 @@ module _ {u n : ℕ} {b : List ℤ} {r : TakingBack} {b′ : List ℤ} (c : Call
       go : {r : TakingBack} {b′ : List ℤ} → Way u n b r b′ → NotRefused r ↔ Takeable u n b
       go (past-buffer h) = (λ k. absurd (k _ refl), λ a. absurd (omega (arith, h, a .used)))
       go (wrong-table w h e) = (λ k. absurd (k w refl), λ a. absurd (let z : _≡_ {A = ℕ} 0 1 = cc (accepted-exactly n (take u b) .1 (a .within)) in omega arith))
-      go (nothing h l z) = (λ k. absurd (k _ refl), λ a. absurd (omega (arith, z, a .group)))
+      go (nothing h l z) = (λ k. absurd (k _ refl), λ a. absurd (omega (arith, z, a .some)))
       go (taken a) = (λ _. a, λ _ w q. let z : _≡_ {A = ℕ} 0 1 = cc in omega arith)
 
   take-back-takeable : numberOf r ≡ done → Takeable u n b
@@ -183,7 +183,7 @@ module _ {u n : ℕ} {b : List ℤ} {r : TakingBack} {b′ : List ℤ} (c : Call
   take-back-table-refused h w e = ap (λ (s : TakeBackCall). s .answer) (c .is) ∙ rw (le-ltb (length b) u h, e)
 
   -- "then 28, nothing to take back, when there is no group"
-  pub take-back-nothing : (numberOf r ≡ 28) ↔ ((u ≡ 0) × (n ≤ maxVariables))
+  pub take-back-nothing : (r ≡ taking-back.Refused (refusal NoClause 0)) ↔ ((u ≡ 0) × (n ≤ maxVariables))
   unfolding zeros
   take-back-nothing = go (way c)
     where
@@ -193,11 +193,11 @@ module _ {u n : ℕ} {b : List ℤ} {r : TakingBack} {b′ : List ℤ} (c : Call
       no-group : u ≡ 0 → zeros (take u b) ≡ 0
       no-group z = rw z
 
-      go : {r : TakingBack} {b′ : List ℤ} → Way u n b r b′ → (numberOf r ≡ 28) ↔ ((u ≡ 0) × (n ≤ maxVariables))
-      go (past-buffer h) = (λ q. absurd (omega arith), λ (z, l). absurd (omega (arith, z, h)))
-      go (wrong-table w h e) = (λ q. absurd (omega (arith, q, check-refuses n (take u b) w e)), λ (z, l). absurd (no-limits w z l e))
+      go : {r : TakingBack} {b′ : List ℤ} → Way u n b r b′ → (r ≡ taking-back.Refused (refusal NoClause 0)) ↔ ((u ≡ 0) × (n ≤ maxVariables))
+      go (past-buffer h) = (λ q. absurd (omega (arith, ap numberOf q)), λ (z, l). absurd (omega (arith, z, h)))
+      go (wrong-table w h e) = (λ q. absurd (omega (arith, ap numberOf q, check-refuses n (take u b) w e)), λ (z, l). absurd (no-limits w z l e))
       go (nothing h l z) = (λ q. (empty-used u n b h l z, l .variables), λ _. refl)
-      go (taken a) = (λ q. absurd (omega arith), λ (z, l). absurd (omega (arith, a .group, no-group z)))
+      go (taken a) = (λ q. absurd (omega (arith, ap numberOf q)), λ (z, l). absurd (omega (arith, a .some, no-group z)))
 
   -- A2: 5 is for the first unknown placement of the used part, with its group; "for all other numbers it is 0"
   pub take-back-names : Names (UnknownInTable n (take u b)) (takingBackReceipt r)
@@ -235,14 +235,14 @@ module _ {u n : ℕ} {g b : List ℤ} (a : Addable u n g b) where
   abbrev longer : ℕ
   longer = u + length g + 1
 
-  table-is : take longer after-adding ≡ take u b ++ group g
+  table-is : take longer after-adding ≡ take u b ++ withZero g
   table-is = added-table u g b (a .used)
 
   added-takeable : Takeable longer n after-adding
   added-takeable = record {
     used = omega (arith, a .room, added-length u g b (a .used) (a .room));
     within = rw table-is (grown-limits (a .follows));
-    group = rw table-is (omega (arith, last-zeros (grown-last (a .follows))));
+    some = rw table-is (omega (arith, last-zeros (grown-last (a .follows))));
   }
 
   starts-at : lastStart (take longer after-adding) ≡ u

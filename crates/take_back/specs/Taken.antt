@@ -19,7 +19,7 @@ pub record Takeable (u n : ℕ) (b : List ℤ) : Type 0 where
   -- "1 to 5"
   pub within : WithinLimits n (take u b)
   -- there is a group
-  pub group : 0 < zeros (take u b)
+  pub some : 0 < zeros (take u b)
 
 -- the buffer b′ after the group g was taken back, with v the new used length
 pub record Taken (u n : ℕ) (g b b′ : List ℤ) (v : ℕ) : Type 0 where

@@ -64,7 +64,7 @@ module _ {t s g : List ℤ} (l : Last t s g) where
       let e = rw (← head-index) at (last-end t (clauses t) 0 refl closed-whole (length (clauses s)) (sym clauses-length)) in
       omega (arith, e, last-entries, ap length (l .whole), length-append s (g ++ (posℤ 0 ∷ [])), length-append g (posℤ 0 ∷ []))
 
-  pub last-group : lastGroup t ≡ g
+  last-group : lastGroup t ≡ g
   last-group = rw (last-start, last-entries) (rw (l .whole, drop-at s (g ++ (posℤ 0 ∷ [])) (length s) refl) (take-at g (posℤ 0 ∷ []) (length g) refl))
 
 -- going back from the last 0 of a closed table: no other 0 stands from i on
@@ -96,11 +96,11 @@ module _ (t : List ℤ) (closed : endsOpen false t ≡ false) (some : 0 < length
       record { whole = all-but-last ∙ ap (λ x. x ++ (posℤ 0 ∷ [])) front ∙ append-assoc (take i t) (slice i (end t) t) (posℤ 0 ∷ []); closed = e; no-zeros = b .entries }
 
   -- at the front, or after a 0
-  pub back-front : Back t 0 → Last t (take 0 t) (slice 0 (end t) t)
+  back-front : Back t 0 → Last t (take 0 t) (slice 0 (end t) t)
   unfolding endsOpen
   back-front b = back-last 0 b refl
 
-  pub back-zero : (k : ℕ) → Back t (suc k) → closes (getD t k (posℤ 0)) ≡ true → Last t (take (suc k) t) (slice (suc k) (end t) t)
+  back-zero : (k : ℕ) → Back t (suc k) → closes (getD t k (posℤ 0)) ≡ true → Last t (take (suc k) t) (slice (suc k) (end t) t)
   unfolding endsOpen
   back-zero k b e = back-last (suc k) b (rw (take-suc t k (posℤ 0) (omega (arith, b .inside)), endsOpen-append false (take k t) (getD t k (posℤ 0) ∷ []), e))
 

@@ -24,7 +24,7 @@ headsOf t = headsFrom 0 (clauses t)
 abbrev pub headAt : List Head → ℕ → Head
 headAt hs i = getD hs i (head 0 0)
 
--- "the last group": where it starts, and the elements of it before its 0 (document 02, A7)
+-- "the last group" (document 02, A7): its head, where it starts, and its elements before its 0. Without a group that is the index 0 and no element.
 abbrev pub lastHead : List ℤ → Head
 lastHead t = let hs = headsOf t in headAt hs (length hs - 1)
 

@@ -155,7 +155,7 @@ fn list_all() -> usize {
     tally.disagreements
 }
 
-// So many calls of the three in any order, for each filing, on one buffer.
+// For each filing twenty to forty calls of the three in any order, on one buffer.
 fn edit_all() -> usize {
     show::text(b"add, preview and take back\n");
     let tally = tally_of(Operation::Edit);

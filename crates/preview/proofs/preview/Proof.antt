@@ -11,7 +11,7 @@ use Rattle.receipt.specs.declared.Checked.the-variants.{Passed}
 use Rattle.theory.specs.Calls.{settleCall}
 use Rattle.theory.specs.Table.{Accepted}
 use Rattle.add.specs.Add.{checkGroup}
-use Rattle.add.proofs.Growing.{group}
+use Rattle.add.proofs.Growing.{withZero}
 use Rattle.add.proofs.Refusals.{group-fits, room-enough}
 use Rattle.preview.proofs.Calling.{previewed, preview-checked, call-refused, used-inside, grown-accepted, grown-table}
 use Rattle.preview.proofs.preview.Statement.{statement}
@@ -43,7 +43,7 @@ module _ (c : tie.After-store) where
 
   table-is :
       let a = told .before .before .before .before .args in
-      take (a .used + length (a .group .now) + 1) (c .store .last .0) ≡ take (a .used) (a .buffer .now) ++ group (a .group .now)
+      take (a .used + length (a .group .now) + 1) (c .store .last .0) ≡ take (a .used) (a .buffer .now) ++ withZero (a .group .now)
   table-is = grown-table _ _ _ _ (passed told) _ _ _ (c .before .before .before .copy-numbers .ensures) (c .store .ensures)
 
 settle-accepted-requires : tie.Need-settle-accepted-requires
