@@ -118,9 +118,9 @@ module _ {u n : ℕ} {g b : List ℤ} {r : Adding} {b′ : List ℤ} (c : Call u
       go : {r : Adding} {b′ : List ℤ} → Way u n g b r b′ → numberOf r ≡ 15 → Stored u n g b b′ (addedLength r)
       go (refused w h) q = absurd (not-refused (w .fault) 15 refl q)
       go (stored a) q = record {
-        before = added-before u g b (a .used);
-        list = added-list u g b (a .used);
-        after = added-after u g b (a .used);
-        limits = rw (added-table u g b (a .used)) (grown-limits (a .follows));
-        groups = rw (added-table u g b (a .used)) (grown-clauses (a .follows));
+        before = added-before u g b (a .room);
+        list = added-list u g b (a .room);
+        after = added-after u g b (a .room);
+        limits = rw (added-table u g b (a .room)) (grown-limits (a .follows));
+        groups = rw (added-table u g b (a .room)) (grown-clauses (a .follows));
       }

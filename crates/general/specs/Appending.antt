@@ -5,7 +5,7 @@ use Prim.Native.Nat.{ℕ, _+_, _-_, _≤_, _<_}
 use native.Mathlib.Numerals.{add-one}
 use native.Mathlib.Omega.{arith}
 use lib.ListN.{length, take, drop, set, length-append, length-drop, take-append-drop}
-use lib.Seq.{length-take-le, take-at, drop-append-add, drop-drop, set-split}
+use lib.Seq.{length-take-le, take-at, drop-at, drop-append-add, drop-drop, set-split}
 
 module _ {A : Type 0} where
   -- after the first `at` elements stands `new`, which ends at index `next`; all others are as they were
@@ -44,6 +44,16 @@ module _ {A : Type 0} where
     -- what stands from `next` on is as it was
     pub appended-past : (m : ℕ) → next ≤ m → drop m list ≡ drop m old
     appended-past m h = let e : next + (m - next) ≡ m = omega arith in rw e at (past-next (m - next))
+
+    -- what stands before `at` is as it was, and from there on stands what was appended
+    before-long : length (take at old) ≡ at
+    before-long = length-take-le at old (omega (arith, a .ends, a .room))
+
+    pub appended-before : take at list ≡ take at old
+    appended-before = rw (a .whole) (take-at (take at old) (new ++ drop next old) at before-long)
+
+    pub appended-new : take (length new) (drop at list) ≡ new
+    appended-new = rw (a .whole, drop-at (take at old) (new ++ drop next old) at before-long) (take-at new (drop next old) (length new) refl)
 
     -- what stands up to `next`
     pub take-next : take next list ≡ head old at new

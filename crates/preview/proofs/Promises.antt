@@ -5,7 +5,7 @@ use mathlib.Core.List.{List, [], _∷_, _++_, map}
 use Prim.Native.Nat.{ℕ, suc, _+_, _<_, _≤_}
 use native.Mathlib.Decide.{decLt}
 use native.Mathlib.Omega.{arith}
-use borrow.Author.Tests.{ltb-true, le-ltb}
+use borrow.Author.Tests.{ltb-true}
 use lib.Dec.{ltb}
 use lib.IntN.{ℤ, pos as posℤ}
 use lib.ListN.{length, getD, take, drop}
@@ -34,12 +34,12 @@ use Rattle.settle.specs.Settle.{called}
 use Rattle.settle.proofs.Promises as settles
 use Rattle.add.specs.Add as add
 use Rattle.add.specs.Addable.{Follows}
-use Rattle.add.proofs.Growing.{withZero, grown-limits, grown-last, grown-clauses, added-table}
+use Rattle.add.proofs.Growing.{withZero, grown-limits, grown-last, grown-clauses}
 use Rattle.add.proofs.Refusals.{unlessRefused, call-checked, checked-exactly, checked-alike, group-refuses}
 use Rattle.add.proofs.Unknown.{call-names}
 use Rattle.add.proofs.Promises as adds
 use Rattle.preview.specs.Preview.{Call, Previewable}
-use Rattle.preview.proofs.Calling.{previewed, preview-checked}
+use Rattle.preview.proofs.Calling.{previewed, copy-settled, preview-checked}
 
 abbrev pub numberOf : Settling → ℕ
 numberOf r = settlingReceipt r .number
@@ -54,25 +54,20 @@ grown u g b = take u b ++ withZero g
 -- Of the definitions: a preview is Settle of the used part that Add leaves in any copy with room enough. ------------------
 
 module _ (u n : ℕ) (g b c l : List ℤ) (m : List ℕ) (in-buffer : u ≤ length b) (in-copy : u ≤ length c) (alike : take u c ≡ take u b) where
-  checks-alike : add.checkGroup u n g c ≡ add.checkGroup u n g b
-  checks-alike = checked-alike u n g c b in-copy in-buffer alike
-
   -- whatever room the buffer has, and whatever stands after its used part
   pub preview-alike : previewCall u n g c l m ≡ previewCall u n g b l m
-  preview-alike = preview-checked u n g c l m ∙ ap (previewed u n g c l m) checks-alike ∙ go (add.checkGroup u n g b) ∙ sym (preview-checked u n g b l m)
+  preview-alike =
+      preview-checked u n g c l m
+      ∙ ap (previewed u n g c l m) (checked-alike u n g c b in-copy in-buffer alike)
+      ∙ go (add.checkGroup u n g b)
+      ∙ sym (preview-checked u n g b l m)
     where
       go : (k : Checked) → previewed u n g c l m k ≡ previewed u n g b l m k
       go (Refused w) = refl
       go Passed = ap (λ t. settleCall n (t ++ withZero g) l m) alike
 
   pub preview-any-copy : u + length g + 1 ≤ length c → let a = addCall u n g c in previewCall u n g b l m ≡ settleAfter (a .answer) n (a .buffer) l m
-  preview-any-copy room = preview-checked u n g b l m ∙ go (add.checkGroup u n g b) refl
-    where
-      go : (k : Checked) → add.checkGroup u n g b ≡ k → previewed u n g b l m k ≡ settleAfter (addCall u n g c .answer) n (addCall u n g c .buffer) l m
-      go (Refused w) e = rw (call-checked c u n g, checks-alike, e)
-      go Passed e =
-          rw (call-checked c u n g, checks-alike, e, le-ltb (length c) (u + length g + 1) room)
-          (ap (λ t. settleCall n t l m) (sym (added-table u g c in-copy ∙ ap (λ t. t ++ withZero g) alike)))
+  preview-any-copy room = preview-checked u n g b l m ∙ sym (copy-settled u n g b l m in-buffer c alike room)
 
 -- the two ways in which a call ends: Add's checks refuse, or it is a call of Settle -------------------------------------
 

@@ -9,8 +9,8 @@ use borrow.Author.Tests.{ltb-true, ltb-false, le-ltb, eqb-true, eqb-false}
 use lib.Dec.{ltb, eqb}
 use lib.IntN.{ℤ, pos as posℤ}
 use lib.ListN.{length, take, drop, replicate, length-append, length-replicate, take-append-drop}
-use lib.Seq.{length-take-le, take-take, take-at, drop-at}
-use Rattle.general.specs.Appending.{Appended, appended-length, appended-past}
+use lib.Seq.{length-take-le, take-take}
+use Rattle.general.specs.Appending.{Appended, appended-length, appended-before, appended-new, appended-past}
 use Rattle.general.specs.Booleans.{cond-ind}
 use Rattle.general.specs.Search.{firstPlace}
 use Rattle.literal.specs.Literal.{maxVariables}
@@ -102,17 +102,14 @@ module _ {u n : ℕ} {b : List ℤ} (a : Takeable u n b) where
   front-long : length (take v b) ≡ v
   front-long = length-take-le v b (omega (arith, inside, a .used))
 
-  rest-cleared : drop v b′ ≡ replicate (u - v) (posℤ 0) ++ drop u b
-  rest-cleared = drop-at (take v b) _ v front-long
-
-  run-cleared : take (u - v) (drop v b′) ≡ replicate (u - v) (posℤ 0)
-  run-cleared = ap (take (u - v)) rest-cleared ∙ take-at (replicate (u - v) (posℤ 0)) (drop u b) (u - v) (length-replicate (u - v) (posℤ 0))
-
-  front-kept : take v b′ ≡ take v b
-  front-kept = take-at (take v b) _ v front-long
-
   appended : Appended b v (replicate (u - v) (posℤ 0)) b′ u
   appended = record { ends = omega (arith, inside, length-replicate (u - v) (posℤ 0)); room = a .used; whole = refl }
+
+  run-cleared : take (u - v) (drop v b′) ≡ replicate (u - v) (posℤ 0)
+  run-cleared = rw (length-replicate (u - v) (posℤ 0)) at (appended-new appended)
+
+  front-kept : take v b′ ≡ take v b
+  front-kept = appended-before appended
 
   rest-kept : drop u b′ ≡ drop u b
   rest-kept = appended-past appended u (omega arith)
@@ -236,11 +233,11 @@ module _ {u n : ℕ} {g b : List ℤ} (a : Addable u n g b) where
   longer = u + length g + 1
 
   table-is : take longer after-adding ≡ take u b ++ withZero g
-  table-is = added-table u g b (a .used)
+  table-is = added-table u g b (a .room)
 
   added-takeable : Takeable longer n after-adding
   added-takeable = record {
-    used = omega (arith, a .room, added-length u g b (a .used) (a .room));
+    used = omega (arith, a .room, added-length u g b (a .room));
     within = rw table-is (grown-limits (a .follows));
     some = rw table-is (omega (arith, last-zeros (grown-last (a .follows))));
   }
@@ -256,9 +253,9 @@ module _ {u n : ℕ} {g b : List ℤ} (a : Addable u n g b) where
       record {
         answer = w .0;
         length-is = k;
-        before = rw k at (s .before) ∙ added-before u g b (a .used);
+        before = rw k at (s .before) ∙ added-before u g b (a .room);
         filled = rw k at (s .cleared);
-        after = s .after ∙ added-after u g b (a .used);
+        after = s .after ∙ added-after u g b (a .room);
       }
 
 pub add-then-take-back : {u n : ℕ} {g b : List ℤ} {a : Adding} {b′ : List ℤ} → adds.Call u n g b a b′ → adds.numberOf a ≡ 15 →

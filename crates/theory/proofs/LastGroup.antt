@@ -13,9 +13,9 @@ use lib.Seq.{length-take-le, take-length, take-suc, take-take, take-at, drop-at,
 use Rattle.general.specs.Booleans.{bit}
 use Rattle.literal.specs.Literal.{literalOf}
 use Rattle.theory.specs.Formula.{clauses}
-use Rattle.theory.specs.Table.{closes, zeros, endsOpen}
+use Rattle.theory.specs.Table.{closes, zeros, nonzeros, endsOpen}
 use Rattle.theory.specs.Heads.{headsOf, lastHead, lastStart, lastGroup}
-use Rattle.theory.proofs.Tables.{zeros-append, endsOpen-append, closed-ends, clauses-append, clauses-one}
+use Rattle.theory.proofs.Tables.{zeros-append, nonzeros-append, length-elements, endsOpen-append, closed-ends, clauses-append, clauses-one}
 use Rattle.theory.proofs.Heads.{clauses-zeros, heads-zeros, heads-hold, last-end}
 
 -- t is the closed table s, and after it the entries g and a 0
@@ -40,13 +40,17 @@ module _ {t s g : List ℤ} (l : Last t s g) where
   pub last-clauses : clauses t ≡ clauses s ++ (map literalOf g ∷ [])
   last-clauses = rw (l .whole) (clauses-append false s (g ++ (posℤ 0 ∷ [])) (l .closed) ∙ ap (_++_ (clauses s)) (clauses-one g (zeros-none g (l .no-zeros))))
 
-  closed-whole : endsOpen false t ≡ false
+  pub last-closed : endsOpen false t ≡ false
   unfolding endsOpen
-  closed-whole = rw (l .whole) (endsOpen-append false s (g ++ (posℤ 0 ∷ [])) ∙ endsOpen-append (endsOpen false s) g (posℤ 0 ∷ []))
+  last-closed = rw (l .whole) (endsOpen-append false s (g ++ (posℤ 0 ∷ [])) ∙ endsOpen-append (endsOpen false s) g (posℤ 0 ∷ []))
 
   pub last-zeros : zeros t ≡ zeros s + 1
   unfolding zeros
   last-zeros = rw (l .whole) (omega (arith, zeros-append s (g ++ (posℤ 0 ∷ [])), zeros-append g (posℤ 0 ∷ []), l .no-zeros))
+
+  pub last-literals : nonzeros t ≡ nonzeros s + length g
+  unfolding nonzeros
+  last-literals = rw (l .whole) (omega (arith, nonzeros-append s (g ++ (posℤ 0 ∷ [])), nonzeros-append g (posℤ 0 ∷ []), length-elements g, l .no-zeros))
 
   clauses-length : length (clauses t) ≡ suc (length (clauses s))
   clauses-length = omega (arith, ap length last-clauses, length-append (clauses s) (map literalOf g ∷ []))
@@ -61,7 +65,7 @@ module _ {t s g : List ℤ} (l : Last t s g) where
 
   pub last-start : lastStart t ≡ length s
   last-start =
-      let e = rw (← head-index) at (last-end t (clauses t) 0 refl closed-whole (length (clauses s)) (sym clauses-length)) in
+      let e = rw (← head-index) at (last-end t (clauses t) 0 refl last-closed (length (clauses s)) (sym clauses-length)) in
       omega (arith, e, last-entries, ap length (l .whole), length-append s (g ++ (posℤ 0 ∷ [])), length-append g (posℤ 0 ∷ []))
 
   last-group : lastGroup t ≡ g

@@ -44,7 +44,7 @@ module _ (c : tie.After-store) where
   table-is :
       let a = told .before .before .before .before .args in
       take (a .used + length (a .group .now) + 1) (c .store .last .0) ≡ take (a .used) (a .buffer .now) ++ withZero (a .group .now)
-  table-is = grown-table _ _ _ _ (passed told) _ _ _ (c .before .before .before .copy-numbers .ensures) (c .store .ensures)
+  table-is = grown-table _ _ _ _ (passed told) _ _ _ (c .before .before .before .copy-numbers .kept .0) (c .before .before .before .copy-numbers .ensures) (c .store .ensures)
 
 settle-accepted-requires : tie.Need-settle-accepted-requires
 settle-accepted-requires c κs =
