@@ -25,7 +25,7 @@ pub struct Due {
 }
 
 // The head of the group that begins at index `at`. At the end of the table there is nothing to pass.
-fn next_head(table: &[i16], at: usize) -> Next
+pub fn next_head(table: &[i16], at: usize) -> Next
     ensures { λ r. ⌜ r ≡ nextHead (now (table .entry)) at ⌝ }
 {
     let mut i = at;
@@ -56,7 +56,7 @@ fn refused(refusal: Refusal) -> Due
 }
 
 // "Tables: 1, 2, 3, 4, 5, then .. 8 (index)", with room for so many heads.
-fn due_of(table: &[i16], n: usize, room: usize) -> Due
+pub fn due_of(table: &[i16], n: usize, room: usize) -> Due
     ensures { λ r. ⌜ r ≡ dueOf n (now (table .entry)) room ⌝ }
 {
     let pass = Pass::begin(n).after(table);

@@ -1,9 +1,16 @@
 // The layout program: a strip from standard input, and what the search of it gives to standard output.
 
 fn main() {
+    if stream::explained(b"layout: reads a strip from standard input and prints its first layout. It takes no arguments.\n") {
+        return;
+    }
     let mut strip = [0u8; report::INPUT];
-    let length = io::read_full(0, &mut strip);
+    let input = stream::read_input(&mut strip);
+    if input.failed {
+        return;
+    }
     let mut out = [0u8; report::PRINTED];
+    let length = input.length;
     let printed = report::report(&strip[..length], &mut out);
-    io::write_all(1, &out[..printed]);
+    stream::write_output(&out[..printed]);
 }

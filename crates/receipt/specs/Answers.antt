@@ -87,6 +87,10 @@ abbrev pub listingReceipt : Listing → Receipt
 listingReceipt (listing.Ended o r m k) = receipt (outcomeNumber o) r k
 listingReceipt (listing.Refused r) = refusedReceipt r
 
+abbrev pub rowsWritten : Listing → ℕ
+rowsWritten (listing.Ended o r m k) = r
+rowsWritten (listing.Refused r) = 0
+
 -- "the answer says "more" when a further one exists and otherwise not"
 abbrev pub saysMore : Listing → Bool
 saysMore (listing.Ended o r m k) = m

@@ -1,7 +1,7 @@
 // What an operation answers, by cases, and what each answer puts on the receipt.
 ghost use mathlib.Core.Path.{_≡_};
 ghost use Rattle.receipt.specs.Receipt.{numberOf, namedClause, outcomeNumber, refusal, receipt, refusedReceipt};
-ghost use Rattle.receipt.specs.Answers.{checkedReceipt, settlingReceipt, searchingReceipt, indexingReceipt, addingReceipt, addedLength, takingBackReceipt, lengthLeft, readingReceipt, readVariables, readLength, savingReceipt, listingReceipt, saysMore};
+ghost use Rattle.receipt.specs.Answers.{checkedReceipt, settlingReceipt, searchingReceipt, indexingReceipt, addingReceipt, addedLength, takingBackReceipt, lengthLeft, readingReceipt, readVariables, readLength, savingReceipt, listingReceipt, rowsWritten, saysMore};
 use literal::ClauseNumber;
 
 // Why a call is refused: the rows of document 01's table of numbers that refuse, in its order, then those of document 02.
@@ -361,6 +361,22 @@ impl Listing {
                 count,
             } => plain(outcome.number(), rows, count),
             Listing::Refused(refusal) => refusal.receipt(),
+        }
+    }
+
+    // "place is the rows written": none on refusal, where the place is another.
+    pub fn rows(self) -> usize
+        ensures { λ r. ⌜ r ≡ rowsWritten self ⌝ }
+    {
+        let answer = self;
+        match answer {
+            Listing::Ended {
+                outcome: _,
+                rows,
+                more: _,
+                count: _,
+            } => rows,
+            Listing::Refused(_) => 0,
         }
     }
 

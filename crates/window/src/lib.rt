@@ -1,4 +1,4 @@
-// The window call, for a C program: it lends a strip, an allowance, a plan and a receipt.
+// The window call, which crate platewright exports for C: it lends a strip, an allowance, a plan and a receipt.
 ghost use mathlib.Core.Path.{_≡_};
 ghost use Prim.Native.Nat.{_+_, _≤_};
 ghost use lib.ListN.{length};
@@ -36,8 +36,7 @@ fn write_receipt(list: &mut [u8], receipt: Receipt)
 }
 
 // The trail is the window's own: nobody sees it.
-#[no_mangle]
-pub extern "C" fn window(strip: &[u8], allowance: u32, plan: &mut [u8], receipt: &mut [u8]) -> u32
+pub fn window(strip: &[u8], allowance: u32, plan: &mut [u8], receipt: &mut [u8]) -> u32
     ensures { λ r. ⌜ called r (now (plan .exit)) (now (receipt .exit)) ≡ windowCall (now (strip .entry)) allowance (now (plan .entry)) (now (receipt .entry)) ⌝ }
 {
     if receipt.len() < RECEIPT_LENGTH {
