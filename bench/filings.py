@@ -1,11 +1,14 @@
 #!/usr/bin/env python3
 """Makes the filings that are measured, each as a strip and as DIMACS text, always the same ones.
 
-    bench/filings.py FOLDER                 all filings of the table
-    bench/filings.py --growth FOLDER        the series for how cost grows
-    bench/filings.py --cnf STRIP FILE       the DIMACS text of one strip
+    bench/filings.py table FOLDER       all filings of the table
+    bench/filings.py growth FOLDER      the series for how cost grows
+    bench/filings.py settle FOLDER      those of the table, and some for Settle only
+    bench/filings.py list FOLDER        those for List, some with placements that stand in no group
+    bench/filings.py cnf STRIP FILE     the DIMACS text of one strip
 
-A filing is a number of placements and a list of groups of entries, +p or -p. Every placement stands in some group.
+A filing is a number of placements and a list of groups of entries, +p or -p. But for List every placement stands in
+some group. The names of the strips go to standard output.
 """
 import os
 import random
@@ -42,7 +45,8 @@ def read_strip(data):
 
 
 def dimacs(n, groups):
-    """Each group one clause, and for each pair of its positions one of the two opposites: so an entry that stands twice is false, and one beside its opposite is no clash."""
+    """Each group one clause, and for each pair of its positions one of the two opposites: so an entry that stands twice
+    is false, and one beside its opposite is no clash."""
     clauses = []
     for group in groups:
         clauses.append(group)
@@ -161,7 +165,8 @@ def symmetric_latin(size):
 
 
 def zipped(count, holes, length):
-    """Pigeons whose placements, left out, tie two others, which makes rule 7 or rule 8 fit two groups: to the limit of placements."""
+    """Pigeons whose placements, left out, tie two others, which makes rule 7 or rule 8 fit two groups: to the limit of
+    placements."""
     n, groups = pigeons(count, holes)
     by_pair = True
     for v in range(count * holes, 0, -1):
@@ -181,7 +186,8 @@ def zipped(count, holes, length):
 
 def pentominoes(letters, rows, columns):
     """Some pentominoes, each once, on a board of five squares for each."""
-    shapes = {"F": "011 110 010", "I": "11111", "L": "1111 1000", "N": "1110 0011", "P": "111 110", "T": "111 010 010", "U": "101 111", "V": "100 100 111",
+    shapes = {"F": "011 110 010", "I": "11111", "L": "1111 1000", "N": "1110 0011", "P": "111 110",
+              "T": "111 010 010", "U": "101 111", "V": "100 100 111",
               "W": "100 110 011", "X": "010 111 010", "Y": "1111 0100", "Z": "110 010 011"}
     name, cell, piece = Namer(), {(y, x): [] for y in range(rows) for x in range(columns)}, []
     for letter in letters:
@@ -275,7 +281,8 @@ def armed(doublings, switches, length, padding):
 
 
 def one_class(doublings, ties, others):
-    """A switch, left out, makes rule 8 fit pair after pair: each tie brings one more placement to a class that stands in nearly every group."""
+    """A switch, left out, makes rule 8 fit pair after pair: each tie brings one more placement to a class that stands
+    in nearly every group."""
     name = Namer()
     groups = doubled(name, doublings)
     r, opposite = name("r"), name("opposite")
@@ -294,7 +301,8 @@ def one_class(doublings, ties, others):
 
 
 def waiting(ties, first, clashing):
-    """Rule 8 fits each of the first groups with each of the second, but rule 7 comes first, at the last pair, a step for each of many ties that touch them."""
+    """Rule 8 fits each of the first groups with each of the second, but rule 7 comes first, at the last pair, a step
+    for each of many ties that touch them."""
     name = Namer()
     a, b, t, p, q = (name(letter) for letter in "abtpq")
     common, tied = ([name(letter, i) for i in range(ties)] for letter in "cx")
@@ -309,7 +317,8 @@ def waiting(ties, first, clashing):
 
 
 def released(classes, size):
-    """Rule 8 fits the last pair and a placement is left out; then rule 6 ties every class, one placement after the other, to its first, and all other groups hold them."""
+    """Rule 8 fits the last pair and a placement is left out; then rule 6 ties every class, one placement after the
+    other, to its first, and all other groups hold them."""
     name = Namer()
     member = [[name("class", j, i) for i in range(size)] for j in range(classes)]
     c, x, y, d = (name(letter) for letter in "cxyd")
@@ -325,7 +334,8 @@ def below_free(count, filing):
 
 
 def late_ties(ties, others):
-    """A switch that no layout takes, left out, makes rule 8 fit pair after pair in one class, each found after all pairs of the groups before, and the last a dead end."""
+    """A switch that no layout takes, left out, makes rule 8 fit pair after pair in one class, each found after all
+    pairs of the groups before, and the last a dead end."""
     name = Namer()
     switch, r, opposite, *dead = (name(letter) for letter in "srodef")
     groups = [[switch, r, opposite], [switch] + dead, dead]
@@ -367,15 +377,16 @@ ALL = {
 }
 
 
-# Measured for Settle only
+# Measured for Settle
 SETTLED = {
+    **ALL,
     "waiting": lambda: waiting(124, 250, False),
     "waitclash": lambda: waiting(124, 250, True),
     "released": lambda: released(4, 60),
 }
 
 
-# Measured for List only, with placements that stand in no group
+# Measured for List
 LISTED = {
     "free256": lambda: (256, []),
     "none256": lambda: (256, [[]]),
@@ -401,21 +412,19 @@ def growth():
     return series
 
 
-def check_limits(name, n, groups):
-    assert n <= MOST_PLACEMENTS and len(groups) <= MOST_GROUPS and sum(map(len, groups)) <= MOST_ENTRIES, name + ": over the limits"
+def check(name, n, groups, all_named):
+    entries = [e for g in groups for e in g]
+    within = n <= MOST_PLACEMENTS and len(groups) <= MOST_GROUPS and len(entries) <= MOST_ENTRIES
+    assert within, name + ": over the limits"
+    named = set(map(abs, entries))
+    assert not all_named or named == set(range(1, n + 1)), name + ": a placement stands in no group"
 
 
-def check(name, n, groups):
-    named = {abs(e) for g in groups for e in g}
-    assert named == set(range(1, n + 1)), name + ": a placement stands in no group"
-    check_limits(name, n, groups)
-
-
-def write(folder, filings):
+def write(folder, filings, all_named=True):
     os.makedirs(folder, exist_ok=True)
     for name, make in filings.items():
         n, groups = make()
-        check(name, n, groups)
+        check(name, n, groups, all_named)
         path = os.path.join(folder, name)
         with open(path + ".strip", "wb") as out:
             out.write(strip(n, groups))
@@ -425,13 +434,12 @@ def write(folder, filings):
 
 
 def main(words):
-    if len(words) == 3 and words[0] == "--cnf":
+    made = {"table": ALL, "growth": growth(), "settle": SETTLED, "list": LISTED}
+    if len(words) == 3 and words[0] == "cnf":
         with open(words[1], "rb") as given, open(words[2], "w") as out:
             out.write(dimacs(*read_strip(given.read())))
-    elif len(words) == 2 and words[0] == "--growth":
-        write(words[1], growth())
-    elif len(words) == 1 and not words[0].startswith("-"):
-        write(words[0], ALL)
+    elif len(words) == 2 and words[0] in made:
+        write(words[1], made[words[0]], all_named=words[0] != "list")
     else:
         sys.exit(__doc__)
 

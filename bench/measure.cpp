@@ -1,68 +1,35 @@
-/* Times the window's call beside the independent search: measure ALLOWANCE SECONDS STRIP...
+/* Times the window's call beside the independent search, from strip to answer: measure ALLOWANCE SECONDS STRIP...
  *
- * A library that would take longer than SECONDS for a filing is measured at a smaller allowance, and the independent search at the same one, so that both do the
- * same work. Each line: strip, n, groups, entries, number and count at ALLOWANCE, the allowance measured at, the splits made there, seconds of the library,
- * seconds of the independent search, and "same" or "DIFFERS". Times are the best of several, each of repeated calls so that the clock means something. */
-#include <algorithm>
-#include <ctime>
+ * Where the library would take longer than SECONDS for a filing it is measured at a smaller allowance, and the
+ * independent search at the same one, so that both do the same work. Each line: strip, n, groups, entries, number and
+ * count at ALLOWANCE, the allowance measured at, the splits made there, seconds of the library, seconds of the
+ * independent search, and "same" or "DIFFERS". */
+#include "common.hpp"
 
-#include "files.hpp"
+enum { FIRST_ALLOWANCE = 16, TIMES_MORE = 4 };
 
-/* Of the processor, so that what else runs on the machine takes little part. */
-static double seconds() {
-    timespec t;
-    clock_gettime(CLOCK_PROCESS_CPUTIME_ID, &t);
-    return (double)t.tv_sec + 1e-9 * (double)t.tv_nsec;
-}
-
-enum { ROUNDS = 5 };
-static const double ROUND_SECONDS = 0.1;
-
-/* Seconds of one call, the best of several rounds. */
-template <class F> static double best(F call) {
-    double start = seconds();
-    call();
-    double once = seconds() - start, least = once;
-    int repeats = std::max(1, (int)(ROUND_SECONDS / (once + 1e-7)));
-    int rounds = once > 1 ? 1 : ROUNDS;
-    for (int i = 0; i < rounds; i++) {
-        start = seconds();
-        for (int k = 0; k < repeats; k++) call();
-        least = std::min(least, (seconds() - start) / repeats);
+/* The allowance that the library can be measured at: ever more splits, as long as that is sure to end in time. */
+static uint32_t allowance_in(double most, const std::vector<uint8_t> &strip, int n, uint32_t allowance) {
+    for (uint32_t at = FIRST_ALLOWANCE; at < allowance; at *= TIMES_MORE) {
+        double start = seconds();
+        if (by_window(strip, n, at).number != PLATEWRIGHT_STOPPED) return at;
+        if ((seconds() - start) * (TIMES_MORE + 1) > most) return at;
+        if (at > allowance / TIMES_MORE) break;
     }
-    return least;
+    return allowance;
 }
 
 static bool measure(const char *path, uint32_t allowance, double most) {
-    FILE *in = fopen(path, "rb");
-    if (!in) {
-        perror(path);
-        return false;
-    }
-    std::vector<uint8_t> strip = read_strip(in);
-    fclose(in);
-    own::Filing f = own::parse(strip.data(), strip.size());
+    std::vector<uint8_t> strip = read_strip(path);
+    own::Filing f = parse(strip);
     own::Answer whole = by_own(strip, allowance);
-    if (whole.number == own::UNNAMED) {
-        fprintf(stderr, "%s: refused, a placement stands in no entry\n", path);
-        return false;
-    }
-    uint32_t at = 16, count = whole.count;
-    own::Answer by_library;
-    for (;;) { /* four times the splits, as long as that is sure to end in time */
-        at = std::min(at, allowance);
-        double start = seconds();
-        by_library = by_window(strip, f.n, at);
-        if (by_library.number != own::STOPPED || at == allowance || (seconds() - start) * 5 > most) break;
-        at = at > allowance / 4 ? allowance : at * 4;
-    }
-    own::Answer a = by_own(strip, at);
-    bool same = a.number == by_library.number && a.count == by_library.count && a.plan == by_library.plan;
-    double library = best([&] { by_window(strip, f.n, at); });
-    double independent = best([&] { by_own(strip, at); });
-    size_t groups = (size_t)std::count(f.table.begin(), f.table.end(), 0);
-    printf("%s %d %zu %zu %d %u %u %u %.9f %.9f %s\n", path, f.n, groups, f.table.size() - groups, whole.number, count, at, a.count, library, independent,
-        same ? "same" : "DIFFERS");
+    uint32_t at = allowance_in(most, strip, f.n, allowance);
+    own::Answer independent = by_own(strip, at);
+    bool same = alike(independent, by_window(strip, f.n, at));
+    Pair best = best_of([&] { by_window(strip, f.n, at); }, [&] { by_own(strip, at); });
+    size_t groups = groups_of(f);
+    printf("%s %d %zu %zu %d %u %u %u %.9f %.9f %s\n", path, f.n, groups, f.table.size() - groups, whole.number,
+        whole.count, at, independent.count, best.first, best.second, same ? "same" : "DIFFERS");
     fflush(stdout);
     return same;
 }
@@ -72,7 +39,9 @@ int main(int argc, char **argv) {
         fprintf(stderr, "measure ALLOWANCE SECONDS STRIP...\n");
         return 2;
     }
+    uint32_t allowance = (uint32_t)strtoul(argv[1], nullptr, 10);
+    double most = atof(argv[2]);
     bool same = true;
-    for (int i = 3; i < argc; i++) same = measure(argv[i], (uint32_t)strtoul(argv[1], nullptr, 10), atof(argv[2])) && same;
+    for (int i = 3; i < argc; i++) same = measure(argv[i], allowance, most) && same;
     return same ? 0 : 1;
 }

@@ -1,119 +1,147 @@
 #!/usr/bin/env bash
 # The benchmark, in one command. Ratios in one run mean something, absolute times don't, and no time is a test.
 #
-#     bench/run.sh [OPTION...] [STRIP...]   compares random filings, then measures the filings of bench/filings.py, or the strips given, and prints the table;
-#                                           without strips it also writes docs/speed.svg, and prints the line of --keystroke
-#     bench/run.sh --growth [OPTION...]     how cost grows with placements, groups and entries
-#     bench/run.sh --stack                  the least stack, in KB, on which the layout program walks its deepest tree
-#     bench/run.sh --compare [WORD...]      only compares, WORDs as bench/compare.cpp says
-#     bench/run.sh --keystroke              what one element more costs beside a whole check of a table at the limits, in one line; it builds only what this needs
-#     bench/run.sh --settle                 what one Settle costs on each filing of bench/filings.py, and one Preview of its last group; it builds only what this needs
-#     bench/run.sh --list                   compares List on random filings, and what it costs on those of bench/filings.py for it; it builds only what this needs
+#     bench/run.sh [OPTION...] [STRIP...]  compares random filings, then measures the filings of bench/filings.py, or
+#                                          the strips given, and prints the table; without strips it also writes
+#                                          docs/speed.svg, and prints the line of --keystroke
+#     bench/run.sh --growth [OPTION...]    how cost grows with placements, groups and entries
+#     bench/run.sh --compare [WORD...]     only compares, WORDs as bench/compare.cpp says
+#     bench/run.sh --keystroke             what one element more costs beside a whole check of a table at the limits
+#     bench/run.sh --settle [STRIP...]     what one settle costs on each filing, and one preview of its last group
+#     bench/run.sh --list [STRIP...]       what one list costs on each filing made for it
+#     bench/run.sh --stack                 the stack that each operation uses at its worst sets (tests/threads.cpp)
 #
-# OPTIONs (bench/table.py): --allowance N, --seconds S for the library on one filing, --limit S for a whole run, --reference PROGRAM (or REFERENCE in the environment).
+# OPTIONs (bench/table.py): --allowance N, --seconds S for the library on one filing, --limit S for a whole run,
+# --reference PROGRAM (or REFERENCE in the environment). MOST_SPLITS in the environment is the largest allowance at
+# which filings are compared.
+#
+# The library is proved and built here, by rt. With PLATEWRIGHT_PREFIX in the environment the one that is installed
+# there (install.sh) is measured instead, and rt isn't needed.
 set -eu
 caller=$PWD
 export PYTHONDONTWRITEBYTECODE=1
 cd "$(dirname "$0")/.."
+out=target/bench
 
 need() { # command, Debian package
     command -v "$1" >/dev/null && return
-    { [ "$(id -u)" -eq 0 ] && { apt-get install -y -qq "$2" || { apt-get update -qq && apt-get install -y -qq "$2"; }; } >/dev/null 2>&1; } ||
-        { echo "bench/run.sh: '$1' is missing and could not be installed; install the Debian package '$2'" >&2; exit 1; }
+    if [ "$(id -u)" -eq 0 ]; then
+        apt-get install -y -qq "$2" || { apt-get update -qq && apt-get install -y -qq "$2"; }
+    fi >/dev/null 2>&1
+    command -v "$1" >/dev/null && return
+    echo "bench/run.sh: '$1' is missing and could not be installed; install the Debian package '$2'" >&2
+    exit 1
 }
 
 proved() { # words for rt
-    rt "$@" >target/bench/build.log 2>&1 || { cat target/bench/build.log; exit 1; }
+    rt "$@" >"$out/build.log" 2>&1 || { cat "$out/build.log"; exit 1; }
 }
 
-flags=(-std=c++17 -O3 -march=native -Wall -Wextra -Wno-psabi -Iinclude -Ibench)
+in_callers() { # a file's name as the caller gave it
+    (cd "$caller" && realpath "$1")
+}
 
-build() {
+if [ -n "${PLATEWRIGHT_PREFIX-}" ]; then
+    prefix=$(in_callers "$PLATEWRIGHT_PREFIX")
+    include=$prefix/include archive=$prefix/lib/libplatewright.a layout=$prefix/bin/layout
+else
+    prefix=
+    include=include archive=target/staticlib/libplatewright.a layout=target/bin/layout
+fi
+
+library() {
+    [ -n "$prefix" ] || proved staticlib platewright
+}
+
+flags=(-std=c++17 -O3 -march=native -pthread -Wall -Wextra -Werror -Wno-psabi)
+
+compiled() { # program of this folder or another C++ file
     need g++ g++
-    proved check layout
-    proved staticlib window
-    local program
-    g++ "${flags[@]}" bench/own.cpp -o target/bench/own
-    for program in measure compare; do
-        g++ "${flags[@]}" "bench/$program.cpp" target/staticlib/libwindow.a -o "target/bench/$program"
-    done
+    local source=bench/$1.cpp
+    [ -e "$source" ] || source=$1
+    g++ "${flags[@]}" "-I$include" "$source" "$archive" -o "$out/$(basename "$1" .cpp)"
+}
+
+compare() { # words for compare
+    compiled compare
+    "$out/compare" --most-splits "${MOST_SPLITS:-2000}" "$@"
 }
 
 keystroke() {
-    proved check keystrokes
-    python3 bench/keystroke.py
+    compiled keystrokes
+    "$out/keystrokes"
 }
 
-settle() {
-    proved check settles
-    python3 bench/settle.py
+made() { # the filings of a mode become `strips`
+    python3 bench/filings.py "$1" "$out/strips/$1" >"$out/made"
+    mapfile -t strips <"$out/made"
 }
 
-list() {
-    need g++ g++
-    proved check listings
-    g++ "${flags[@]}" bench/lister.cpp -o target/bench/lister
-    python3 bench/list.py
+measured() { # program, on the filings of the mode where no strips were given
+    compiled "$1"
+    [ "${#strips[@]}" -gt 0 ] || made "$mode"
+    "$out/$1" "${strips[@]}"
+}
+
+table() {
+    local picture=()
+    need minisat minisat
+    need cadical cadical
+    need clasp clasp
+    [ -n "$prefix" ] || proved check layout
+    compiled own
+    compiled measure
+    compare
+    if [ "${#strips[@]}" -eq 0 ]; then
+        made table
+        picture=(--picture docs/speed.svg)
+    fi
+    python3 bench/table.py --layout "$layout" "${picture[@]}" "${options[@]}" "${strips[@]}"
+    [ "${#picture[@]}" -eq 0 ] || keystroke
+}
+
+growth() {
+    compiled measure
+    made growth
+    python3 bench/table.py --growth --allowance 20000 "${options[@]}" "${strips[@]}"
+}
+
+stack() {
+    compiled tests/threads.cpp
+    "$out/threads" --measure
 }
 
 mode=table
 case ${1-} in
---growth | --stack | --compare | --keystroke | --settle | --list)
+--growth | --compare | --keystroke | --settle | --list | --stack)
     mode=${1#--}
     shift
     ;;
 esac
-mkdir -p target/bench
-need python3 python3
-case $mode in
-keystroke | settle | list) ;;
-*) build ;;
-esac
 
-# words that name files are the caller's
-words=()
-strips=0
+options=() strips=()
 while [ $# -gt 0 ]; do
     case $1 in
     --reference)
-        words+=("$1" "$(cd "$caller" && realpath "$2")")
+        options+=("$1" "$(in_callers "${2:?missing after $1}")")
         shift
         ;;
-    --*=*) words+=("$1") ;;
+    --*=*) options+=("$1") ;;
     --*)
-        words+=("$1" "$2")
+        options+=("$1" "${2:?missing after $1}")
         shift
         ;;
-    *)
-        words+=("$(cd "$caller" && realpath "$1")")
-        strips=$((strips + 1))
-        ;;
+    *) strips+=("$(in_callers "$1")") ;;
     esac
     shift
 done
 
+mkdir -p "$out"
+need python3 python3
+library
 case $mode in
-compare) target/bench/compare --most-splits "${MOST_SPLITS:-2000}" "${words[@]}" target/bin/layout ;;
-stack) bench/stack.sh ;;
-keystroke) keystroke ;;
-settle) settle ;;
-list) list ;;
-growth)
-    python3 bench/filings.py --growth target/bench/growth >target/bench/made
-    mapfile -t made <target/bench/made
-    python3 bench/table.py --growth --allowance 20000 "${words[@]}" "${made[@]}"
-    ;;
-table)
-    need minisat minisat
-    need cadical cadical
-    need clasp clasp
-    target/bench/compare --most-splits "${MOST_SPLITS:-2000}" target/bin/layout
-    if [ "$strips" -eq 0 ]; then
-        python3 bench/filings.py target/bench/filings >target/bench/made
-        mapfile -t made <target/bench/made
-        words+=(--picture docs/speed.svg "${made[@]}")
-    fi
-    python3 bench/table.py "${words[@]}"
-    [ "$strips" -gt 0 ] || keystroke
-    ;;
+compare) compare "${options[@]}" ;;
+settle) measured settles ;;
+list) measured listings ;;
+*) "$mode" ;;
 esac

@@ -1,8 +1,9 @@
 #!/usr/bin/env python3
 """Measures strips and prints one table, for bench/run.sh, which builds what is called here.
 
-The library is called through the window, the independent search directly, both by target/bench/measure; the layout program, the independent search and the solvers
-are also timed as whole runs, from the start of the process to its end, the best of several.
+The library is called through the window's call, the independent search directly, both by target/bench/measure; the
+layout program, the independent search and the solvers are also timed as whole runs, from the start of the process to
+its end, the best of several.
 """
 import argparse
 import math
@@ -14,19 +15,25 @@ import sys
 import time
 
 import filings
+import picture
 
+FIGURES = "bench/figures.json"
 BENCH = "target/bench"
 OUTCOMES = {0: "laid out", 10: "no layout", 11: "stopped"}
-SOLVERS = {"minisat": ["minisat", "-verb=0"], "cadical": ["cadical", "-q", "-n"], "clasp": ["clasp", "--quiet=2", "--verbose=0"]}
+SOLVERS = {
+    "minisat": ["minisat", "-verb=0"],
+    "cadical": ["cadical", "-q", "-n"],
+    "clasp": ["clasp", "--quiet=2", "--verbose=0"],
+}
 SATISFIABLE, UNSATISFIABLE = (10, 30), (20,)
+RIGHT_STATUS = {0: SATISFIABLE, 10: UNSATISFIABLE, 11: SATISFIABLE + UNSATISFIABLE}
 SERIES = ["library", "independent", "minisat", "cadical", "clasp"]
-COLOURS = {"library": "#b3261e", "independent": "#e8a33d", "minisat": "#31688e", "cadical": "#35b779", "clasp": "#7a7a7a"}
 
 
 # Whole runs
 
 def run_once(words, given, limit):
-    """Seconds from the start of a process to its end and its status; no seconds where it was still running at the limit."""
+    """Seconds from the start of a process to its end and its status; no seconds where it still ran at the limit."""
     quiet = os.open(os.devnull, os.O_WRONLY)
     source = os.open(given or os.devnull, os.O_RDONLY)
     actions = [(os.POSIX_SPAWN_DUP2, source, 0), (os.POSIX_SPAWN_DUP2, quiet, 1), (os.POSIX_SPAWN_DUP2, quiet, 2)]
@@ -55,7 +62,7 @@ def best_run(words, given, limit):
 def whole_runs(row, options):
     """Seconds of each program on a row's filing, None past the limit."""
     seconds = {}
-    for name, program in (("library", "target/bin/layout"), ("independent", BENCH + "/own")):
+    for name, program in (("library", options.layout), ("independent", BENCH + "/own")):
         seconds[name], status = best_run([program], row["strip"], options.limit)
         if seconds[name] is not None and status != 0:
             sys.exit("%s: %s ended with %d" % (row["name"], program, status))
@@ -64,9 +71,10 @@ def whole_runs(row, options):
         out.write(filings.dimacs(*filings.read_strip(given.read())))
     for name, words in SOLVERS.items():
         seconds[name], status = best_run(words + [cnf], None, options.limit)
-        right = SATISFIABLE if row["number"] == 0 else UNSATISFIABLE if row["number"] == 10 else SATISFIABLE + UNSATISFIABLE
+        right = RIGHT_STATUS[row["number"]]
         if seconds[name] is not None and status not in right:
-            sys.exit("%s: %s ended with %d, but the filing has the outcome '%s'" % (row["name"], name, status, OUTCOMES[row["number"]]))
+            outcome = OUTCOMES[row["number"]]
+            sys.exit("%s: %s ended with %d, but the filing has the outcome '%s'" % (row["name"], name, status, outcome))
     os.remove(cnf)
     return seconds
 
@@ -76,26 +84,30 @@ def whole_runs(row, options):
 def measured(strips, options):
     """One row for each strip, as target/bench/measure gives it."""
     for path in strips:
-        done = subprocess.run([BENCH + "/measure", str(options.allowance), str(options.seconds), path], stdout=subprocess.PIPE, text=True, check=False)
-        words = done.stdout.rsplit(None, 10)
-        if len(words) != 11 or words[10] != "same":
-            sys.exit("%s: library and independent search differ, or no strip: %s" % (path, done.stdout))
-        n, groups, entries, number, count, at, splits = map(int, words[1:8])
-        yield {"strip": path, "name": os.path.splitext(os.path.basename(path))[0], "n": n, "groups": groups, "entries": entries, "number": number, "count": count, "at": at,
-               "splits": splits, "library": float(words[8]), "independent": float(words[9])}
+        command = [BENCH + "/measure", str(options.allowance), str(options.seconds), path]
+        printed = subprocess.run(command, stdout=subprocess.PIPE, text=True, check=False).stdout
+        words = printed.rsplit(None, 10)
+        if not words:
+            sys.exit(1)  # measure has said why
+        if words[10] != "same":
+            sys.exit("%s: library and independent search differ: %s" % (path, printed))
+        row = dict(zip(("n", "groups", "entries", "number", "count", "at", "splits"), map(int, words[1:8])))
+        row.update(strip=path, name=os.path.splitext(os.path.basename(path))[0])
+        row.update(library=float(words[8]), independent=float(words[9]))
+        yield row
 
 
 def reference(row, program):
-    """Processor seconds of one search by a program that answers the line `bench N ALLOWANCE e1 e2 ..` with `NUMBER PLACE COUNT | .. reps R ..`, the best of three.
-
-    It searches once, and if that was short R times more."""
+    """Processor seconds of one search by a program, the best of three. It answers the line `bench N ALLOWANCE e1 e2 ..`
+    with `NUMBER PLACE COUNT | .. reps R ..`; it searches once, and if that was short R times more."""
     with open(row["strip"], "rb") as given:
         n, groups = filings.read_strip(given.read())
     line = " ".join(map(str, ["bench", n, row["at"]] + [e for g in groups for e in g + [0]]))
     best = None
     for _ in range(3):
         before = resource.getrusage(resource.RUSAGE_CHILDREN)
-        words = subprocess.run([program], input=line + "\n", stdout=subprocess.PIPE, text=True, check=True).stdout.split()
+        done = subprocess.run([program], input=line + "\n", stdout=subprocess.PIPE, text=True, check=True)
+        words = done.stdout.split()
         after = resource.getrusage(resource.RUSAGE_CHILDREN)
         if int(words[2]) != row["splits"]:
             sys.exit("%s: the reference's count is %s" % (row["name"], words[2]))
@@ -127,6 +139,13 @@ def ahead(row, whole):
     return min(times, key=times.get) if times else "-"
 
 
+FILING = ["filing", "n", "groups", "entries"]
+
+
+def filing_cells(row):
+    return [row["name"], str(row["n"]), str(row["groups"]), "{:,}".format(row["entries"])]
+
+
 def print_line(cells):
     print("| " + " | ".join(cells) + " |", flush=True)
 
@@ -139,7 +158,7 @@ def head(cells):
 # The table and the growth of cost
 
 def table(strips, options):
-    columns = ["filing", "n", "groups", "entries", "outcome", "count", "library splits/s", "independent splits/s", "ratio", "layout program s"]
+    columns = FILING + ["outcome", "count", "library splits/s", "independent splits/s", "ratio", "layout program s"]
     columns += [name + " s" for name in SOLVERS] + ["ahead"]
     if options.reference:
         columns += ["reference splits/s", "library to it", "independent to it"]
@@ -149,28 +168,35 @@ def table(strips, options):
         whole = row["whole"] = whole_runs(row, options)
         row["ahead"] = ahead(row, whole)
         stopped = row["at"] < options.allowance and row["splits"] == row["at"]
-        cells = [row["name"], str(row["n"]), str(row["groups"]), "{:,}".format(row["entries"]), OUTCOMES[row["number"]], "{:,}".format(row["count"])]
-        cells += [rate(row["splits"], row["library"]) + (" (first {:,})".format(row["at"]) if stopped else ""), rate(row["splits"], row["independent"])]
-        cells += ["%.2g" % (row["independent"] / row["library"])] + [shown(whole[name], options.limit) for name in SERIES if name != "independent"] + [row["ahead"]]
+        cells = filing_cells(row) + [OUTCOMES[row["number"]], "{:,}".format(row["count"])]
+        cells += [rate(row["splits"], row["library"]) + (" (first {:,})".format(row["at"]) if stopped else "")]
+        cells += [rate(row["splits"], row["independent"]), "%.2g" % (row["independent"] / row["library"])]
+        cells += [shown(whole[name], options.limit) for name in SERIES if name != "independent"] + [row["ahead"]]
         if options.reference:
             row["reference"] = reference(row, options.reference)
-            cells += [rate(row["splits"], row["reference"]), "%.2g" % (row["reference"] / row["library"]), "%.2g" % (row["reference"] / row["independent"])]
+            cells += [rate(row["splits"], row["reference"])]
+            cells += ["%.2g" % (row["reference"] / row[name]) for name in ("library", "independent")]
         print_line(cells)
         rows.append(row)
         first += row["ahead"] == "library"
     print()
-    print("Geometric mean of the ratios, library to independent search: %.2g." % mean([r["independent"] / r["library"] for r in rows]))
+    library = mean([row["independent"] / row["library"] for row in rows])
+    print("Geometric mean of the ratios, library to independent search: %.2g." % library)
     if options.reference:
-        print("Library to reference: %.2g. Independent search to reference: %.2g." % (mean([r["reference"] / r["library"] for r in rows]), mean([r["reference"] / r["independent"] for r in rows])))
+        to_it = tuple(mean([row["reference"] / row[name] for row in rows]) for name in ("library", "independent"))
+        print("Library to reference: %.2g. Independent search to reference: %.2g." % to_it)
     print("The library is ahead of all three solvers on %d of %d filings." % (first, len(rows)))
     if options.picture:
-        with open(options.picture, "w") as out:
-            out.write(picture(rows, options.limit))
+        run = picture.figures(rows, OUTCOMES, options.limit)
+        picture.save(run, FIGURES, options.picture)
+        print("Measured %s." % run["measured"])
 
 
 def growth(strips, options):
-    """All rows of a series at one allowance, the least that the library reached in any of them: the first splits of a tree may be cheaper than later ones."""
-    head(["filing", "n", "groups", "entries", "splits", "library, microseconds a call", "a split, nanoseconds", "independent, microseconds a call", "a split, nanoseconds"])
+    """All rows of a series at one allowance, the least that the library reached in any of them: the first splits of a
+    tree may be cheaper than later ones."""
+    head(FILING + ["splits", "library, microseconds a call", "a split, nanoseconds", "independent, microseconds a call",
+                   "a split, nanoseconds"])
     series = {}
     for row in measured(strips, options):
         series.setdefault(row["name"].split("-")[0], []).append(row)
@@ -178,57 +204,24 @@ def growth(strips, options):
         least = min(row["at"] if row["splits"] == row["at"] else options.allowance for row in rows)
         again = argparse.Namespace(allowance=least, seconds=options.seconds * 10)
         for row in measured([row["strip"] for row in rows], again):
-            cells = [row["name"], str(row["n"]), str(row["groups"]), "{:,}".format(row["entries"]), "{:,}".format(row["splits"])]
+            cells = filing_cells(row) + ["{:,}".format(row["splits"])]
             for name in ("library", "independent"):
-                cells += ["{:,.1f}".format(1e6 * row[name]), "{:,.0f}".format(1e9 * row[name] / row["splits"]) if row["splits"] else "-"]
+                a_split = "{:,.0f}".format(1e9 * row[name] / row["splits"]) if row["splits"] else "-"
+                cells += ["{:,.1f}".format(1e6 * row[name]), a_split]
             print_line(cells)
-
-
-# The picture
-
-def picture(rows, limit):
-    """Seconds of whole runs, as bars on a scale of powers of ten."""
-    left, width, bar, gap, top = 110, 760, 7, 9, 74
-    low, high = math.log10(0.0005), math.log10(limit)
-    height = top + len(rows) * (len(SERIES) * bar + gap) + 30
-
-    def x(seconds):
-        return left + width * (max(low, min(high, math.log10(seconds))) - low) / (high - low)
-
-    out = ['<svg xmlns="http://www.w3.org/2000/svg" viewBox="0 0 %d %d" font-family="sans-serif" font-size="12">' % (left + width + 60, height),
-           '<rect width="100%" height="100%" fill="white"/>',
-           '<text x="%d" y="22" font-size="15">Seconds from start to end of each program, by filing (scale of powers of ten)</text>' % left]
-    at = left
-    for name in SERIES:
-        label = {"library": "library (layout program)", "independent": "independent search"}.get(name, name)
-        out.append('<rect x="%d" y="35" width="12" height="12" fill="%s"/><text x="%d" y="45">%s</text>' % (at, COLOURS[name], at + 17, label))
-        at += 35 + 7 * len(label)
-    for power in range(math.ceil(low), math.floor(high) + 1):
-        label = {-3: "1 ms", -2: "10 ms", -1: "0.1 s"}.get(power, "%d s" % 10 ** max(power, 0))
-        out.append('<line x1="%.1f" y1="%d" x2="%.1f" y2="%d" stroke="#ccc"/>' % (x(10.0 ** power), top - 6, x(10.0 ** power), height - 24))
-        out.append('<text x="%.1f" y="%d" text-anchor="middle" fill="#555">%s</text>' % (x(10.0 ** power), top - 10, label))
-    y = top
-    for row in rows:
-        out.append('<text x="%d" y="%.1f" text-anchor="end">%s</text>' % (left - 8, y + len(SERIES) * bar / 2 + 4, row["name"]))
-        for name in SERIES:
-            seconds = row["whole"][name]
-            end = x(limit if seconds is None else seconds)
-            out.append('<rect x="%d" y="%d" width="%.1f" height="%d" fill="%s"/>' % (left, y, max(2.0, end - left), bar - 1, COLOURS[name]))
-            if seconds is None:
-                out.append('<text x="%.1f" y="%d" font-size="8">over %g s</text>' % (end + 3, y + bar - 1, limit))
-            y += bar
-        y += gap
-    out.append('<text x="%d" y="%d" fill="#555">The solvers answer with some layout, the library and the independent search with the first one.</text>' % (left, height - 8))
-    return "\n".join(out + ["</svg>"]) + "\n"
 
 
 def main():
     parser = argparse.ArgumentParser(description=__doc__, formatter_class=argparse.RawDescriptionHelpFormatter)
-    parser.add_argument("--allowance", type=int, default=1000000, help="splits that a search may make (default: the layout program's)")
-    parser.add_argument("--seconds", type=float, default=2, help="a library slower than this on a filing is measured at a smaller allowance")
+    parser.add_argument("--layout", default="target/bin/layout", help="the layout program")
+    parser.add_argument("--allowance", type=int, default=1000000,
+                        help="splits that a search may make (default: the layout program's)")
+    parser.add_argument("--seconds", type=float, default=2,
+                        help="where the library is slower than this on a filing it is measured at a smaller allowance")
     parser.add_argument("--limit", type=float, default=10, help="seconds for a whole run")
-    parser.add_argument("--reference", default=os.environ.get("REFERENCE"), help="a further program to measure; its answers are in the form of `bench` lines")
-    parser.add_argument("--picture", help="the SVG file to write")
+    parser.add_argument("--reference", default=os.environ.get("REFERENCE"),
+                        help="a further program to measure; its answers are in the form of `bench` lines")
+    parser.add_argument("--picture", help="the SVG file to write; its figures go to %s" % FIGURES)
     parser.add_argument("--growth", action="store_true", help="print how cost grows instead")
     parser.add_argument("strips", nargs="+")
     options = parser.parse_args()
