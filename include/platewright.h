@@ -12,9 +12,9 @@
  * number of the first fault in the order that its comment gives, and then no lent element has changed (but the
  * window's receipt, which tells the refusal).
  *
- * THREADS. Calls share nothing and keep nothing: any number may run side by side, on lists of their own. A call
- * needs at most PLATEWRIGHT_STACK bytes of stack; give a thread that calls at least that much and what it needs
- * itself.
+ * THREADS. Calls share nothing and keep nothing: any number may run side by side, on lists of their own. A call needs
+ * at most PLATEWRIGHT_STACK bytes of stack: give a thread that calls at least that much, and what it needs itself (on
+ * Linux a thread's stack also holds its thread-local variables). A smaller stack ends in a crash at its guard page.
  *
  * No call allocates memory, reads a file, or runs without end: a search makes at most as many splits as its
  * allowance says. */
