@@ -1,0 +1,18 @@
+#!/usr/bin/env bash
+# Sees to it that what the tests need is installed: installs Debian's packages where something is missing, and says what can't be had.
+set -eu
+packages=(gcc g++ libc6-dev python3 pkg-config doctest-dev librapidcheck-dev libcli11-dev nlohmann-json3-dev)
+missing=()
+for package in "${packages[@]}"; do
+    dpkg-query -W -f='${Status}' "$package" 2>/dev/null | grep -q 'install ok installed' || missing+=("$package")
+done
+[ ${#missing[@]} -eq 0 ] && exit 0
+if ! command -v apt-get >/dev/null; then
+    echo "missing, and there is no apt-get to install them: ${missing[*]}" >&2
+    exit 1
+fi
+echo "installing ${missing[*]}"
+if ! { apt-get update -qq && DEBIAN_FRONTEND=noninteractive apt-get install -y -qq "${missing[@]}"; } >/dev/null; then
+    echo "missing, and could not be installed: ${missing[*]}" >&2
+    exit 1
+fi
