@@ -127,7 +127,7 @@ platewright_answer platewright_check(const int16_t *table, size_t table_len, siz
  * it came. */
 typedef struct platewright_pass {
     size_t placements; /* n */
-    size_t place;      /* of the first unknown placement, where one was met */
+    size_t place;      /* of the first unknown placement, where one was met within the limits */
     uint16_t group;    /* its group */
     uint16_t groups;   /* closed ones so far, at most 513 */
     uint16_t entries;  /* so far, at most 2,049 */

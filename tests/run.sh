@@ -23,7 +23,7 @@ matches() { # what is tried, the file that it wrote, the file that has what it m
 
 step install
 ./install.sh "$prefix" >"$room/install.log" || { cat "$room/install.log"; exit 1; }
-tail -n 1 "$room/install.log"
+echo "$(wc -l <"$prefix/share/platewright/installed.txt") files and folders"
 export PKG_CONFIG_PATH=$prefix/lib/pkgconfig LD_LIBRARY_PATH=$prefix/lib
 read -ra with <<<"$(pkg-config --cflags platewright)"
 archive=$prefix/lib/libplatewright.a
@@ -75,3 +75,69 @@ step "Python"
 PYTHONPATH=$prefix/share/platewright/python python3 tests/python_test.py 2>"$room/python.log" ||
     { cat "$room/python.log"; exit 1; }
 grep '^Ran ' "$room/python.log"
+
+step "trials beside the reference"
+mkdir "$room/trials"
+(
+    cd tests
+    printf '%s\n' trials*.cpp | xargs -P "$(nproc)" -I{} \
+        g++ -std=c++17 "${sanitized[@]}" -Wno-psabi "${with[@]}" -c {} -o "$room/trials/{}.o"
+)
+g++ "${sanitized[@]}" "$room"/trials/*.o "$archive" -lrapidcheck -o "$room/trials/trials"
+"$room/trials/trials" >"$room/trials.out" || { tail -n 60 "$room/trials.out"; exit 1; }
+matches trials "$room/trials.out" tests/trials.txt
+tail -n 1 "$room/trials.out"
+
+step "wrong programs"
+tests/wrong.sh "$archive" >"$room/wrong.out" || { cat "$room/wrong.out"; exit 1; }
+echo "$(grep -c ': found$' "$room/wrong.out") found"
+
+# layout: document 01's strip, strips of 16,384 and of 16,385 bytes, both in order, with chapters in between, a refusal
+# that names its group, and one of a strip that leaves a placement unnamed
+step layout
+layout=$prefix/bin/layout
+chapters() { yes C | tr '\n' '\0' | head -c "$1"; }
+longest() { printf 'P\0\0'; chapters 16380; printf Z; }
+longer() { printf 'P\0\1GT\0\1E'; chapters 16376; printf Z; }
+same "the strips' sizes" "$(longest | wc -c) $(longer | wc -c)" "16384 16385"
+same "document 01's strip" "$("$layout" <crates/layout/stdin)" "$(cat crates/layout/stdout)"
+same "16,384 bytes" "$(longest | "$layout")" $'laid out\ncount 0\nplan\ntrail'
+same "16,385 bytes" "$(longer | "$layout")" "refused 24 0"
+same "an unknown placement" "$(printf 'P\0\2GT\0\1ECGGT\0\3EZ' | "$layout")" "refused 5 11 2"
+same "an unnamed placement" "$(printf 'P\0\1Z' | "$layout")" "refused 26 3"
+echo "as stored"
+
+# strip_of: README's first example, the longest table, and a text of each kind that gets a line on standard error and
+# nothing on standard output
+step strip_of
+strip_of() { timeout 60 "$prefix/bin/strip_of"; }
+longest_table() { echo 256; for i in $(seq 512); do echo "$((i % 256 + 1)) -$((i % 7 + 250)) 3 -4 0"; done; }
+told() { # what is tried, the line it must write; the text from standard input
+    strip_of >"$room/out" 2>"$room/err" || { echo "$1: status $?"; exit 1; }
+    same "$1" "$(cat "$room/err")" "$2"
+    same "$1, its lines and bytes" "$(wc -l <"$room/err") $(wc -c <"$room/out")" "1 0"
+}
+same "3 1 2 3 0" "$(echo 3 1 2 3 0 | strip_of | od -An -tx1 | tr -d ' \n')" "50000347540001540002540003455a"
+same "3 1 2 3 0, and layout" "$(echo 3 1 2 3 0 | strip_of | "$layout")" "$(cat crates/layout/stdout)"
+same "the longest table" "$(longest_table | strip_of | wc -c)" 7172
+same "the longest table, and layout" "$(longest_table | strip_of | "$layout" | head -n 1)" "no layout"
+echo 3 1 2 x 0 | told "a word that is no number" "no valid number at byte 6"
+echo 3 1 70000 0 | told "a number of more than 16 bits" "no valid number at byte 4"
+printf '' | told "an empty text" "no valid number at byte 0"
+echo 2 1 -3 0 | told "an unknown placement" "refused 5 1 1"
+echo 2 1 0 0 2 -3 0 | told "an unknown placement in the third group" "refused 5 4 3"
+echo 257 | told "too many placements" "refused 1 0"
+echo 3 1 0 -3 0 | told "an unnamed placement" "refused 26 0"
+yes 1 | told "a text without end" "text too long at byte 32768"
+echo "as stored"
+
+# both, where reading or writing fails, or with an argument
+step "what can't be read or written"
+for program in layout strip_of; do
+    same "$program, a folder" "$("$prefix/bin/$program" 2>&1 <"$room")" "can't read standard input: Is a directory"
+    same "$program, a full disk" "$(echo 3 1 2 3 0 | "$prefix/bin/$program" 2>&1 >/dev/full)" \
+        "can't write standard output: No space left on device"
+    same "$program, an argument" "$("$prefix/bin/$program" --help 2>&1 </dev/null | head -c $((${#program} + 7)))" \
+        "$program: reads"
+done
+echo "said"

@@ -1,0 +1,30 @@
+#!/usr/bin/env bash
+# Tries every wrong program of wrong.hpp: each must be found by the trials of its operation. Prints a line for each, and
+# ends with 1 where one is not found.
+# Usage: tests/wrong.sh libplatewright.a
+set -eu
+archive=$(realpath "$1")
+cd "$(dirname "$0")"
+work=$(mktemp -d)
+trap 'rm -rf "$work"' EXIT
+flags=(-std=c++17 -O1 -Wall -Wextra -Werror -Wno-psabi -DWRONG -I../include)
+printf '%s\n' trials*.cpp | xargs -P "$(nproc)" -I{} g++ "${flags[@]}" -c {} -o "$work/{}.o"
+g++ "$work"/*.o "$archive" -lrapidcheck -o "$work/trials"
+
+# without a fault the same program agrees, so what is found is the fault (large trees apart, which take longer)
+"$work/trials" hand check index search settle list edits read save window properties >/dev/null
+echo "no fault: nothing found"
+
+missed=0
+while read -r number where what; do
+    status=0
+    WRONG=$number timeout 60 "$work/trials" "$where" >"$work/out" 2>&1 || status=$?
+    if [ "$status" = 1 ] && grep -q '^disagreement$' "$work/out"; then
+        echo "$where: $what: found"
+    else
+        echo "$where: $what: NOT FOUND"
+        missed=$((missed + 1))
+    fi
+done < <("$work/trials" programs)
+[ "$missed" = 0 ] || { echo "wrong programs that were not found: $missed"; exit 1; }
+echo "all wrong programs were found"
