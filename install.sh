@@ -14,9 +14,12 @@ Installed are
     lib/pkgconfig/platewright.pc               for pkg-config --cflags --libs platewright
     share/platewright/python/platewright.py    every operation, for Python; it finds the shared library by itself
     share/platewright/installed.txt            the list of what was installed, for --uninstall
-    bin/layout, bin/strip_of                   the programs
+    bin/platewright, share/man/man1            the command, and its man page
+    bin/layout, bin/strip_of                   the older programs
 
-Needed are rt (the Rattle kit), gcc, and room to write in PREFIX. The proofs' output goes to target/install.log.
+Needed are rt (the Rattle kit), gcc and g++, Debian's packages libcli11-dev and nlohmann-json3-dev (which are installed
+where they are missing and that is allowed), and room to write in PREFIX. The output of the proofs goes to
+target/install.log.
 With DESTDIR in the environment all files go below DESTDIR/PREFIX, and are made to be used in PREFIX.
 END
 }
@@ -36,11 +39,13 @@ build=$here/target/install
 
 files() { # all that is installed, below PREFIX
     printf '%s\n' "$list" include/platewright.h lib/libplatewright.a "lib/$shared.$version" "lib/$shared.$major" \
-        "lib/$shared" lib/pkgconfig/platewright.pc share/platewright/python/platewright.py bin/layout bin/strip_of
+        "lib/$shared" lib/pkgconfig/platewright.pc share/platewright/python/platewright.py bin/platewright \
+        share/man/man1/platewright.1 bin/layout bin/strip_of
 }
 
 folders() { # outer ones first; the first is PREFIX itself
-    printf '%s\n' . include lib lib/pkgconfig share share/platewright share/platewright/python bin
+    printf '%s\n' . include lib lib/pkgconfig share share/platewright share/platewright/python share/man \
+        share/man/man1 bin
 }
 
 # PREFIX as a whole path, and the folder that it is now (below DESTDIR, where that is set).
@@ -72,6 +77,7 @@ look_first() {
         [ ! -e "$root/$path" ] && [ ! -L "$root/$path" ] || installed_before "$path" ||
             fail "$root/$path is there, and was not installed by this script: remove it, or take another PREFIX"
     done
+    look_for_headers
 }
 
 logged() { # a command; its output goes to the log, and is shown if it fails
@@ -80,6 +86,13 @@ logged() { # a command; its output goes to the log, and is shown if it fails
         tail -n 40 "$log" >&2
         fail "'$*' failed; all of its output is in $log"
     }
+}
+
+build_command() { # each source by itself, so that two cores share them
+    mkdir -p "$build/command"
+    printf '%s\n' command/*.cpp | xargs -P "$(nproc)" -I{} sh -c \
+        'g++ -std=c++17 -O2 -Wall -Wextra -Iinclude -c "$1" -o "$2/$(basename "$1").o"' compile {} "$build/command"
+    g++ "$build"/command/*.o target/staticlib/libplatewright.a -o "$build/platewright"
 }
 
 build_all() {
@@ -93,6 +106,7 @@ build_all() {
     logged gcc -shared -o "$build/$shared" -Wl,-soname,"$shared.$major" -Wl,--version-script="$build/exports" \
         -Wl,-z,defs,-z,noexecstack,-z,relro,-z,now \
         -Wl,--whole-archive target/staticlib/libplatewright.a -Wl,--no-whole-archive
+    logged build_command
     cat >"$build/platewright.pc" <<END
 prefix=$prefix
 libdir=\${prefix}/lib
@@ -122,7 +136,8 @@ copy_all() {
     ln -sf "$shared.$major" "$root/lib/$shared"
     install -m 644 "$build/platewright.pc" "$root/lib/pkgconfig/"
     install -m 644 python/platewright.py "$root/share/platewright/python/"
-    install -m 755 target/bin/layout target/bin/strip_of "$root/bin/"
+    install -m 644 command/platewright.1 "$root/share/man/man1/"
+    install -m 755 "$build/platewright" target/bin/layout target/bin/strip_of "$root/bin/"
 }
 
 # Files first, then the folders that were made, inner ones first, where nothing else is in them. What Python keeps of
