@@ -48,4 +48,5 @@ pub mod SettledList
 pub mod Heads
 pub mod LastGroup
 pub mod Unknown
+pub mod Refusing
 pub mod Encodings

@@ -1,5 +1,5 @@
 -- What the operations answer, and what they leave in the lists lent to them.
-use mathlib.Core.Bool.{Bool, _||_, cond}
+use mathlib.Core.Bool.{Bool, not, _||_, cond}
 use mathlib.Core.List.{List, [], _∷_, _++_}
 use mathlib.Core.Option.{Option, none, some}
 use Prim.Native.Nat.{ℕ, zero, suc, _+_, _-_, _*_, _/_, _%_, min}
@@ -14,7 +14,7 @@ use Rattle.literal.specs.Literal.{maxVariables, maxClauses, maxLiterals, maxTab
 use Rattle.receipt.specs.declared.Fault.the-variants.{TooManyClauses, TooManyLiterals, PlanShort, TrailShort, HeadsShort, ReceiptShort, UsedLengthWrong, StateShort, TableShort, StripShort, UnmentionedVariable, ReasonsShort, RowsShort, NoClause}
 use Rattle.receipt.specs.declared.Refusal.{Refusal}
 use Rattle.receipt.specs.declared.Checked.{Checked}
-use Rattle.receipt.specs.declared.Checked.the-variants.{Passed, Refused}
+use Rattle.receipt.specs.declared.Checked.the-variants.{Passed}
 use Rattle.receipt.specs.declared.Settling.{Settling}
 use Rattle.receipt.specs.declared.Settling.the-variants as settling
 use Rattle.receipt.specs.declared.Searching.{Searching}
@@ -40,6 +40,7 @@ use Rattle.theory.specs.Heads.{headsOf, lastStart}
 use Rattle.theory.specs.SettledList.{decided}
 use Rattle.theory.specs.State.{initial}
 use Rattle.theory.specs.Table.{closes, zeros, nonzeros, refused, isUnknown, check}
+use Rattle.theory.specs.Refusing.{refusedIf, atMost, firstRefusal, unless}
 use Rattle.theory.specs.Propagation.{Settled, dead, rest, settle}
 use Rattle.theory.specs.Reasons.{Explanation, unexplained, explain}
 use Rattle.theory.specs.Reasons as explanation
@@ -90,16 +91,12 @@ settledCall n f l m =
 abbrev pub settleRefused : Refusal → List ℤ → List ℕ → SettleCall
 settleRefused r l m = record { answer = settling.Refused r; list = l; reasons = m }
 
-abbrev pub settleChecked : Checked → ℕ → List ℤ → List ℤ → List ℕ → SettleCall
-settleChecked (Refused r) n t l m = settleRefused r l m
-settleChecked Passed n t l m =
-    cond (ltb (length l) n) (settleRefused (refusal StateShort 0) l m)
-    (cond (ltb (length m) n) (settleRefused (refusal ReasonsShort 0) l m)
-    (settledCall n (clauses t) l m))
-
 -- "Tables: 1, 2, 3, 4, 5, then .. 14 (settle)"; "Turned away: 19, reason list short, after 14" (A5)
 unfoldable pub settleCall : ℕ → List ℤ → List ℤ → List ℕ → SettleCall
-settleCall n t l m = settleChecked (check n t) n t l m
+settleCall n t l m =
+    unless (firstRefusal (check n t ∷ atMost n (length l) StateShort ∷ atMost n (length m) ReasonsShort ∷ []))
+    (λ r. settleRefused r l m)
+    (settledCall n (clauses t) l m)
 
 -- Search ----------------------------------------------------------------------------------------------------------
 
@@ -118,16 +115,12 @@ searchedCall n r plan trail =
 abbrev pub searchRefused : Refusal → List ℕ → List ℤ → SearchCall
 searchRefused r plan trail = record { answer = searching.Refused r; plan = plan; trail = trail }
 
-abbrev pub searchChecked : Checked → ℕ → List ℤ → ℕ → List ℕ → List ℤ → SearchCall
-searchChecked (Refused r) n t b plan trail = searchRefused r plan trail
-searchChecked Passed n t b plan trail =
-    cond (ltb (length plan) n) (searchRefused (refusal PlanShort 0) plan trail)
-    (cond (ltb (length trail) n) (searchRefused (refusal TrailShort 0) plan trail)
-    (searchedCall n (search n t b) plan trail))
-
 -- "Tables: 1, 2, 3, 4, 5, then 6, 7 (search)"
 unfoldable pub searchCall : ℕ → List ℤ → ℕ → List ℕ → List ℤ → SearchCall
-searchCall n t b plan trail = searchChecked (check n t) n t b plan trail
+searchCall n t b plan trail =
+    unless (firstRefusal (check n t ∷ atMost n (length plan) PlanShort ∷ atMost n (length trail) TrailShort ∷ []))
+    (λ r. searchRefused r plan trail)
+    (searchedCall n (search n t b) plan trail)
 
 -- List ------------------------------------------------------------------------------------------------------------
 
@@ -146,15 +139,9 @@ listedCall n k r rows = record { answer = listAnswer k r; rows = over (k * n) (r
 abbrev pub listRefused : Refusal → List ℕ → ListCall
 listRefused r rows = record { answer = listing.Refused r; rows = rows }
 
-abbrev pub listChecked : Checked → ℕ → List ℤ → ℕ → ℕ → List ℕ → ListCall
-listChecked (Refused r) n t k b rows = listRefused r rows
-listChecked Passed n t k b rows =
-    cond (ltb (length rows) (k * n)) (listRefused (refusal RowsShort 0) rows)
-    (listedCall n k (list n t k b) rows)
-
 -- "Turned away: 1 to 5, then 27, row room under k times n."
 unfoldable pub listCall : ℕ → List ℤ → ℕ → ℕ → List ℕ → ListCall
-listCall n t k b rows = listChecked (check n t) n t k b rows
+listCall n t k b rows = unless (firstRefusal (check n t ∷ atMost (k * n) (length rows) RowsShort ∷ [])) (λ r. listRefused r rows) (listedCall n k (list n t k b) rows)
 
 -- Index -----------------------------------------------------------------------------------------------------------
 
@@ -165,15 +152,12 @@ pub record IndexCall : Type 0 where
 abbrev pub indexRefused : Refusal → List Head → IndexCall
 indexRefused r hs = record { answer = indexing.Refused r; heads = hs }
 
-abbrev pub indexChecked : Checked → List ℤ → List Head → IndexCall
-indexChecked (Refused r) t hs = indexRefused r hs
-indexChecked Passed t hs =
-    cond (ltb (length hs) (zeros t)) (indexRefused (refusal HeadsShort 0) hs)
-    (record { answer = indexing.Indexed; heads = over (zeros t) (headsOf t) hs })
+abbrev pub indexedCall : List ℤ → List Head → IndexCall
+indexedCall t hs = record { answer = indexing.Indexed; heads = over (zeros t) (headsOf t) hs }
 
 -- "Tables: 1, 2, 3, 4, 5, then .. 8 (index)"
 unfoldable pub indexCall : ℕ → List ℤ → List Head → IndexCall
-indexCall n t hs = indexChecked (check n t) t hs
+indexCall n t hs = unless (firstRefusal (check n t ∷ atMost (zeros t) (length hs) HeadsShort ∷ [])) (λ r. indexRefused r hs) (indexedCall t hs)
 
 -- Add -------------------------------------------------------------------------------------------------------------
 
@@ -200,23 +184,28 @@ unknownIn u k n g = listUnknown k (firstPlace (isWrong n) u g)
 abbrev pub added : ℕ → List ℤ → List ℤ → List ℤ
 added u g b = take u b ++ (g ++ (posℤ 0 ∷ drop (u + length g + 1) b))
 
-abbrev pub addKnown : Checked → ℕ → List ℤ → List ℤ → AddCall
-addKnown (Refused r) u g b = addRefused r b
-addKnown Passed u g b =
-    cond (ltb (length b) (u + length g + 1)) (addRefused (refusal TableShort 0) b)
-    (record { answer = adding.Added (u + length g + 1); buffer = added u g b })
+abbrev pub addedCall : ℕ → List ℤ → List ℤ → AddCall
+addedCall u g b = record { answer = adding.Added (u + length g + 1); buffer = added u g b }
 
--- "2 and 3 with the group added (each element of the list counts as an entry)"
-abbrev pub addChecked : Checked → ℕ → ℕ → List ℤ → List ℤ → AddCall
-addChecked (Refused r) u n g b = addRefused r b
-addChecked Passed u n g b =
-    cond (ltb maxClauses (zeros (take u b) + 1)) (addRefused (refusal TooManyClauses 0) b)
-    (cond (ltb maxLiterals (nonzeros (take u b) + length g)) (addRefused (refusal TooManyLiterals 0) b)
-    (addKnown (unknownIn u (zeros (take u b) + 1) n g) u g b))
+-- "Add: 12, then 1 to 5 on the used part, 2 and 3 with the group added (each element of the list counts as an entry), 5 on the list": all but the room
+unfoldable pub checkGroup : ℕ → ℕ → List ℤ → List ℤ → Checked
+checkGroup u n g b =
+    let t = take u b in
+    firstRefusal (
+      atMost u (length b) UsedLengthWrong ∷
+      check n t ∷
+      atMost (zeros t + 1) maxClauses TooManyClauses ∷
+      atMost (nonzeros t + length g) maxLiterals TooManyLiterals ∷
+      unknownIn u (zeros t + 1) n g ∷
+      []
+    )
 
--- "Add: 12, then 1 to 5 on the used part"
+-- and then 23, where the table has room for so many elements
+abbrev pub checkAdded : ℕ → ℕ → List ℤ → List ℤ → ℕ → Checked
+checkAdded u n g b room = firstRefusal (checkGroup u n g b ∷ atMost (u + length g + 1) room TableShort ∷ [])
+
 unfoldable pub addCall : ℕ → ℕ → List ℤ → List ℤ → AddCall
-addCall u n g b = cond (ltb (length b) u) (addRefused (refusal UsedLengthWrong 0) b) (addChecked (check n (take u b)) u n g b)
+addCall u n g b = unless (checkAdded u n g b (length b)) (λ r. addRefused r b) (addedCall u g b)
 
 -- Taking back -----------------------------------------------------------------------------------------------------
 
@@ -231,16 +220,16 @@ takeBackRefused r b = record { answer = taking-back.Refused r; buffer = b }
 abbrev pub cleared : ℕ → ℕ → List ℤ → List ℤ
 cleared v u b = take v b ++ (replicate (u - v) (posℤ 0) ++ drop u b)
 
--- "the last group of the used part is removed"; "then 28, nothing to take back, when there is no group"
-abbrev pub takeBackChecked : Checked → ℕ → List ℤ → TakeBackCall
-takeBackChecked (Refused r) u b = takeBackRefused r b
-takeBackChecked Passed u b =
-    cond (eqb (zeros (take u b)) 0) (takeBackRefused (refusal NoClause 0) b)
-    (let v = lastStart (take u b) in record { answer = taking-back.TakenBack v; buffer = cleared v u b })
+-- "the last group of the used part is removed"
+abbrev pub takenBackCall : ℕ → List ℤ → TakeBackCall
+takenBackCall u b = let v = lastStart (take u b) in record { answer = taking-back.TakenBack v; buffer = cleared v u b }
 
--- "taking back has 12, 1 to 5" (document 02, A7)
+-- "taking back has 12, 1 to 5, then 28, nothing to take back, when there is no group" (document 02, A7)
 unfoldable pub takeBackCall : ℕ → ℕ → List ℤ → TakeBackCall
-takeBackCall u n b = cond (ltb (length b) u) (takeBackRefused (refusal UsedLengthWrong 0) b) (takeBackChecked (check n (take u b)) u b)
+takeBackCall u n b =
+    unless (firstRefusal (atMost u (length b) UsedLengthWrong ∷ check n (take u b) ∷ refusedIf (eqb (zeros (take u b)) 0) NoClause ∷ []))
+    (λ r. takeBackRefused r b)
+    (takenBackCall u b)
 
 -- Preview ---------------------------------------------------------------------------------------------------------
 
@@ -257,7 +246,7 @@ settleAfter (adding.Added u) n b l m = settleCall n (take u b) l m
 unfoldable pub previewCall : ℕ → ℕ → List ℤ → List ℤ → List ℤ → List ℕ → SettleCall
 previewCall u n g b l m =
     let a = addCall u n g (withRoom g b) in
-    cond (ltb (length b) u) (settleRefused (refusal UsedLengthWrong 0) l m) (settleAfter (a .answer) n (a .buffer) l m)
+    unless (atMost u (length b) UsedLengthWrong) (λ r. settleRefused r l m) (settleAfter (a .answer) n (a .buffer) l m)
 
 -- Read ------------------------------------------------------------------------------------------------------------
 
@@ -275,12 +264,8 @@ readCall s t = readAs (readStrip s (length t)) t
 -- Save ------------------------------------------------------------------------------------------------------------
 
 -- what is asked of a table: "1 to 5 as for any table", then that it names every placement (A3)
-abbrev pub thenMentioned : ℕ → List ℤ → Checked → Checked
-thenMentioned n t (Refused r) = Refused r
-thenMentioned n t Passed = cond (mentionsAll n t) Passed (refused UnmentionedVariable 0)
-
 unfoldable pub saveCheck : ℕ → List ℤ → Checked
-saveCheck n t = thenMentioned n t (check n t)
+saveCheck n t = firstRefusal (check n t ∷ refusedIf (not (mentionsAll n t)) UnmentionedVariable ∷ [])
 
 pub record SaveCall : Type 0 where
   pub answer : Saving
@@ -292,17 +277,14 @@ saveRefused r s = record { answer = saving.Refused r; strip = s }
 
 -- "past the written bytes it is untouched always"
 abbrev pub savedCall : List ℕ → List ℕ → SaveCall
-savedCall b s =
-    cond (ltb (length s) (length b)) (saveRefused (refusal StripShort 0) s)
-    (record { answer = saving.Saved (length b); strip = over (length b) b s })
-
-abbrev pub saveChecked : Checked → ℕ → List ℤ → List ℕ → SaveCall
-saveChecked (Refused r) n t s = saveRefused r s
-saveChecked Passed n t s = savedCall (savedStrip n t) s
+savedCall b s = record { answer = saving.Saved (length b); strip = over (length b) b s }
 
 -- "Turned away: 1 to 5 as for any table, then 25, strip room short."; 26 "in saving after 5 and before 25" (A3)
 unfoldable pub saveCall : ℕ → List ℤ → List ℕ → SaveCall
-saveCall n t s = saveChecked (saveCheck n t) n t s
+saveCall n t s =
+    unless (firstRefusal (saveCheck n t ∷ atMost (length (savedStrip n t)) (length s) StripShort ∷ []))
+    (λ r. saveRefused r s)
+    (savedCall (savedStrip n t) s)
 
 -- Solving a strip: reading it, and searching what was read ---------------------------------------------------------
 

@@ -1,6 +1,7 @@
 pub mod Formula
 pub mod Order
 pub mod Table
+pub mod Refusing
 pub mod Mentions
 pub mod State
 pub mod Rules

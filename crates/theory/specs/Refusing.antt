@@ -1,0 +1,38 @@
+-- How a call is refused: checks in an order, each with its number and place. The first that refuses gives the answer, and "a refused call changes no lent element".
+use mathlib.Core.Bool.{Bool, cond}
+use mathlib.Core.List.{List, [], _∷_}
+use mathlib.Core.Path.{_≡_}
+use Prim.Native.Nat.{ℕ}
+use lib.Dec.{ltb}
+use Rattle.receipt.specs.declared.Fault.{Fault}
+use Rattle.receipt.specs.declared.Refusal.{Refusal}
+use Rattle.receipt.specs.declared.Checked.{Checked}
+use Rattle.receipt.specs.declared.Checked.the-variants.{Passed, Refused}
+use Rattle.theory.specs.Table.{refused}
+
+-- refused at place 0 where the test holds
+abbrev pub refusedIf : Bool → Fault → Checked
+refusedIf test why = cond test (refused why 0) Passed
+
+-- a count above its limit is refused, at place 0
+abbrev pub atMost : ℕ → ℕ → Fault → Checked
+atMost count limit why = refusedIf (ltb limit count) why
+
+-- two checks, one after the other
+abbrev pub firstOf : Checked → Checked → Checked
+firstOf Passed c = c
+firstOf (Refused r) c = Refused r
+
+-- checks in their order
+abbrev pub firstRefusal : List Checked → Checked
+firstRefusal [] = Passed
+firstRefusal (c ∷ cs) = firstOf c (firstRefusal cs)
+
+-- what a call answers and leaves: what the refusal leaves where the checks refuse, and else what is accepted
+abbrev pub unless : {C : Type 0} → Checked → (Refusal → C) → C → C
+unless Passed turned accepted = accepted
+unless (Refused r) turned accepted = turned r
+
+-- "accepted when it isn't refused", of an answer that may be a refusal
+abbrev pub NotRefused : {A : Type 0} → (Refusal → A) → A → Type 0
+NotRefused refuse r = (w : Refusal) → ¬ (r ≡ refuse w)
