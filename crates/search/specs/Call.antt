@@ -5,9 +5,7 @@ use Prim.Native.Nat.{ℕ, _≤_}
 use lib.IntN.{ℤ}
 use lib.ListN.{length, take}
 use Rattle.receipt.specs.declared.Outcome.{Outcome}
-use Rattle.receipt.specs.declared.Refusal.{Refusal}
 use Rattle.receipt.specs.declared.Searching.{Searching}
-use Rattle.receipt.specs.declared.Searching.the-variants.{Refused}
 use Rattle.receipt.specs.Receipt.{outcomeNumber}
 use Rattle.receipt.specs.Answers.{searchingReceipt}
 use Rattle.theory.specs.Calls.{SearchCall, searchCall}
@@ -27,10 +25,6 @@ pub record Acceptable (n : ℕ) (t : List ℤ) (plan : List ℕ) (trail : List �
 pub record Call (n : ℕ) (t : List ℤ) (b : ℕ) (plan : List ℕ) (trail : List ℤ) (s : SearchCall) : Type 0 where
   pub acceptable : Acceptable n t plan trail
   pub is : s ≡ searchCall n t b plan trail
-
--- "accepted when it isn't refused"
-abbrev pub NotRefused : SearchCall → Type 0
-NotRefused s = (w : Refusal) → ¬ (s .answer ≡ Refused w)
 
 -- how it ended, by its number on the receipt, and the count there
 abbrev pub Reports : SearchCall → Outcome → Type 0

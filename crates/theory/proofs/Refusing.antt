@@ -98,8 +98,8 @@ pub record NamedBy (Where : ℕ → ℕ → Type 0) (c : Checked) : Type 0 where
 pub table-named : (n : ℕ) (t : List ℤ) → NamedBy (UnknownInTable n t) (check n t)
 table-named n t = record { named = check-unknown n t }
 
-pub passed-named : {Where : ℕ → ℕ → Type 0} → NamedBy Where Passed
-passed-named = record { named = λ w e. absurd (not-passed (sym e)) }
+pub passed-named : {Where : ℕ → ℕ → Type 0} {c : Checked} → c ≡ Passed → NamedBy Where c
+passed-named p = record { named = λ w e. absurd (not-passed (sym e ∙ p)) }
 
 pub first-named : {Where : ℕ → ℕ → Type 0} (c d : Checked) → NamedBy Where c → NamedBy Where d → NamedBy Where (firstOf c d)
 first-named (Refused r) d h k = h
@@ -107,7 +107,7 @@ first-named Passed d h k = k
 
 pub if-named : {Where : ℕ → ℕ → Type 0} (test : Bool) (why : Fault) → numberOf why ≢ 5 → NamedBy Where (refusedIf test why)
 if-named true why h = record { named = λ w e q. let z : refusal why 0 ≡ w = cc in absurd (h (ap (λ (x : Refusal). numberOf (x .fault)) z ∙ q)) }
-if-named false why h = passed-named
+if-named false why h = passed-named refl
 
 -- a call ---------------------------------------------------------------------------------------------------------------
 
