@@ -1,18 +1,16 @@
 -- The heads of a table, made one group after the other, are the heads of its clauses.
 use mathlib.Core.Path.{_≡_, refl, ap, _∙_}
-use mathlib.Core.Bool.{Bool, true, false, cond}
 use mathlib.Core.Logic.{_≢_}
 use mathlib.Core.List.{List, [], _∷_}
 use Prim.Native.Nat.{ℕ, zero, suc, _+_, _-_, _<_, _≤_}
 use native.Mathlib.Nat.{zero-add}
 use native.Mathlib.Numerals.{add-one}
 use native.Mathlib.Omega.{arith}
-use lib.Dec.{ltb, eqb·suc-zero}
+use lib.Dec.{eqb·suc-zero}
 use lib.IntN.{ℤ, negsuc, natAbs, pos as posℤ}
 use lib.ListN.{length, getD, drop, drop-of-length-le}
 use lib.Seq.{drop-cons, sets, sets-eq}
-use borrow.Author.Tests.{eq-eqb, ne-eqb, ltb-false}
-use Rattle.general.specs.Booleans.{cond-ind}
+use borrow.Author.Tests.{eq-eqb, ne-eqb}
 use Rattle.literal.specs.declared.Literal.{Literal}
 use Rattle.literal.specs.declared.Literal.the-variants.{Pos, Neg}
 use Rattle.receipt.specs.declared.Fault.the-variants.{HeadsShort}
@@ -20,15 +18,16 @@ use Rattle.receipt.specs.declared.Checked.{Checked}
 use Rattle.receipt.specs.declared.Checked.the-variants.{Passed, Refused}
 use Rattle.receipt.specs.declared.Indexing.the-variants as indexing
 use Rattle.receipt.specs.declared.Head.{Head}
-use Rattle.receipt.specs.Receipt.{refusal}
 use Rattle.theory.specs.Formula.{Clause, Formula, clauses, push}
 use Rattle.theory.specs.Table.{zeros, check}
-use Rattle.theory.specs.Calls.{over, IndexCall, indexRefused, indexChecked, indexCall}
+use Rattle.theory.specs.Refusing.{atMost, firstRefusal, unless}
+use Rattle.theory.specs.Calls.{IndexCall, indexRefused, indexedCall, indexCall}
 use Rattle.theory.specs.Heads.{head, headsFrom, headsOf}
 use Rattle.theory.proofs.Heads.{clauses-zeros, heads-zeros, rest-at}
+use Rattle.theory.proofs.Refusing.{most-passes, first-passed, last-passes}
 use Rattle.index.specs.declared.Next.{Next}
 use Rattle.index.specs.declared.Due.{Due}
-use Rattle.index.specs.Index.{nextFrom, nextHead, headsAt, dueRefused, dueChecked, dueOf, called}
+use Rattle.index.specs.Index.{nextFrom, nextHead, headsAt, dueRefused, dueOf, called}
 
 abbrev next : ℕ → ℕ → ℕ → Next
 next s k i = record { head = head s k; next = i }
@@ -84,28 +83,28 @@ module _ (n : ℕ) (t : List ℤ) (hs : List Head) where
   abbrev Stored : Due → IndexCall → Type 0
   Stored d c = called (d .answer) (sets hs 0 (headsAt (d .heads) t 0)) ≡ c
 
+  abbrev checks : Checked
+  checks = firstRefusal (check n t ∷ atMost (zeros t) (length hs) HeadsShort ∷ [])
+
+  has-room : checks ≡ Passed → zeros t ≤ length hs
+  has-room e = most-passes (zeros t) (length hs) HeadsShort .0 (last-passes (λ k. k, λ k. k) .0 (first-passed (check n t) _ .0 e .1))
+
   pub index-stored : Stored (dueOf n t (length hs)) (indexCall n t hs)
   unfolding dueOf indexCall headsAt
-  index-stored = go (check n t)
+  index-stored = go checks refl
     where
-      go : (k : Checked) → Stored (dueChecked k (zeros t) (length hs)) (indexChecked k t hs)
-      go (Refused r) = refl
-      go Passed = by-room (ltb (length hs) (zeros t)) refl
-        where
-          by-room : (b : Bool) → ltb (length hs) (zeros t) ≡ b →
-              Stored (cond b (dueRefused (refusal HeadsShort 0)) (record { answer = indexing.Indexed; heads = zeros t }))
-              (cond b (indexRefused (refusal HeadsShort 0) hs) (record { answer = indexing.Indexed; heads = over (zeros t) (headsOf t) hs }))
-          by-room true e = refl
-          by-room false e =
-              let l : length (headsOf t) ≡ zeros t = heads-zeros t in
-              let r : zeros t ≤ length hs = ltb-false _ _ e in
-              rw (heads-made t) (ap (called indexing.Indexed) (sets-eq (headsOf t) hs 0 (omega arith) ∙ rw (l, zero-add)))
+      go : (k : Checked) → checks ≡ k → Stored (unless k dueRefused (record { answer = indexing.Indexed; heads = zeros t })) (unless k (λ r. indexRefused r hs) (indexedCall t hs))
+      go (Refused r) e = refl
+      go Passed e =
+          let l : length (headsOf t) ≡ zeros t = heads-zeros t in
+          let r : zeros t ≤ length hs = has-room e in
+          rw (heads-made t) (ap (called indexing.Indexed) (sets-eq (headsOf t) hs 0 (omega arith) ∙ rw (l, zero-add)))
 
   -- there is room for them
   pub due-room : dueOf n t (length hs) .heads ≤ length hs
   unfolding dueOf
-  due-room = go (check n t)
+  due-room = go checks refl
     where
-      go : (k : Checked) → dueChecked k (zeros t) (length hs) .heads ≤ length hs
-      go (Refused r) = omega arith
-      go Passed = cond-ind (λ (d : Due). d .heads ≤ length hs) _ _ (ltb (length hs) (zeros t)) (λ _. omega arith) (λ e. ltb-false _ _ e)
+      go : (k : Checked) → checks ≡ k → unless k dueRefused (record { answer = indexing.Indexed; heads = zeros t }) .heads ≤ length hs
+      go (Refused r) e = omega arith
+      go Passed e = has-room e

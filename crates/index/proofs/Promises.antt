@@ -1,113 +1,102 @@
 -- What a call of Index promises, by its receipt and the heads after it. All of it follows from the equation that `index` ensures.
-use mathlib.Core.Path.{_≡_, refl, ap, sym, subst, _∙_}
+use mathlib.Core.Path.{_≡_, refl, ap, sym, _∙_}
 use mathlib.Core.Bool.{false}
 use mathlib.Core.Logic.{_↔_}
-use mathlib.Core.List.{List, []}
+use mathlib.Core.List.{List, [], _∷_}
 use Prim.Native.Nat.{ℕ, suc, _+_, _-_, _<_, _≤_}
 use native.Mathlib.Omega.{arith}
-use borrow.Author.Tests.{ltb-true, ltb-false}
+use borrow.Author.Tests.{lt-ltb}
 use lib.Dec.{ltb}
 use lib.IntN.{ℤ}
 use lib.ListN.{length, getD, drop, List·getD-append}
 use lib.Seq.{drop-at}
-use Rattle.general.specs.Booleans.{cond-ind}
-use Rattle.receipt.specs.Receipt.{receipt}
+use Rattle.receipt.specs.Receipt.{refusal, receipt}
 use Rattle.receipt.specs.Answers.{indexingReceipt}
 use Rattle.receipt.specs.declared.Checked.{Checked}
 use Rattle.receipt.specs.declared.Checked.the-variants.{Passed, Refused}
+use Rattle.receipt.specs.declared.Fault.the-variants.{HeadsShort}
 use Rattle.receipt.specs.declared.Head.{Head}
 use Rattle.receipt.specs.declared.Indexing.{Indexing}
 use Rattle.receipt.specs.declared.Indexing.the-variants as indexing
 use Rattle.receipt.specs.declared.Refusal.{Refusal}
-use Rattle.receipt.proofs.Numbers.{not-refused}
-use Rattle.theory.specs.Calls.{over, IndexCall, indexChecked, indexCall}
+use Rattle.theory.specs.Calls.{over, IndexCall, indexRefused, indexedCall, indexCall}
 use Rattle.theory.specs.Formula.{clauses}
 use Rattle.theory.specs.Heads.{head, headsOf, headAt, HeadOf}
-use Rattle.theory.specs.Table.{zeros, endsOpen, check, WithinLimits}
+use Rattle.theory.specs.Refusing.{atMost, firstRefusal, NotRefused}
+use Rattle.theory.specs.Table.{zeros, endsOpen, check, Accepted, WithinLimits}
 use Rattle.theory.specs.Unknown.{Encloses, UnknownInTable, Names}
 use Rattle.theory.proofs.Heads.{clauses-zeros, heads-zeros, heads-hold, first-start, next-start, last-end, in-order}
-use Rattle.theory.proofs.Tables.{accepted-sizes, accepted-exactly, accepted-closed}
-use Rattle.theory.proofs.Unknown.{none-named, check-names}
+use Rattle.theory.proofs.Refusing.{most-passes, both-pass, last-passes, table-named, passed-named, first-named, if-named, number-not-refused, Refusing, accepted-is, refused-is, refused-with, accepted-when, unchanged, call-names}
+use Rattle.theory.proofs.Tables.{accepted-exactly, accepted-closed}
+use Rattle.theory.proofs.Unknown.{none-named}
 use Rattle.index.specs.Index.{called}
 
 abbrev pub numberOf : Indexing → ℕ
 numberOf r = indexingReceipt r .number
 
-abbrev pub NotRefused : Indexing → Type 0
-NotRefused r = (w : Refusal) → ¬ (r ≡ indexing.Refused w)
-
 -- a call of Index: its answer r, and the heads before and after it
 pub record Call (n : ℕ) (t : List ℤ) (hs : List Head) (r : Indexing) (hs′ : List Head) : Type 0 where
   pub is : called r hs′ ≡ indexCall n t hs
 
--- the two ways in which a call ends
-data Way (n : ℕ) (t : List ℤ) (hs : List Head) : Indexing → List Head → Type 0 where
-  refused : (w : Refusal) → ¬ (WithinLimits n t × (zeros t ≤ length hs)) → Way n t hs (indexing.Refused w) hs
-  indexed : WithinLimits n t → zeros t ≤ length hs → Way n t hs indexing.Indexed (over (zeros t) (headsOf t) hs)
-
-abbrev By : ℕ → List ℤ → List Head → IndexCall → Type 0
-By n t hs s = Way n t hs (s .answer) (s .heads)
-
-way : {n : ℕ} {t : List ℤ} {hs : List Head} {r : Indexing} {hs′ : List Head} → Call n t hs r hs′ → Way n t hs r hs′
-unfolding indexCall
-way {n} {t} {hs} c = subst (By n t hs) (sym (c .is)) (checked (check n t) refl)
-  where
-    checked : (k : Checked) → check n t ≡ k → By n t hs (indexChecked k t hs)
-    checked (Refused w) e = refused w (λ h. let z : _≡_ {A = ℕ} 0 1 = cc (accepted-exactly n t .1 (h .0)) in omega arith)
-    checked Passed e = cond-ind (By n t hs) _ _ (ltb (length hs) (zeros t))
-        (λ b. refused _ (λ h. omega (arith, h .1, ltb-true (length hs) (zeros t) b)))
-        (λ b. indexed (accepted-sizes n t e) (ltb-false (length hs) (zeros t) b))
+-- "within the limits of document 01, with room lent for the results": 8 is "under the number of groups"
+abbrev pub Acceptable : ℕ → List ℤ → List Head → Type 0
+Acceptable n t hs = WithinLimits n t × (zeros t ≤ length hs)
 
 module _ {n : ℕ} {t : List ℤ} {hs : List Head} {r : Indexing} {hs′ : List Head} (c : Call n t hs r hs′) where
-  -- demand 1: "Every table .. within the limits of document 01, with room lent for the results, is accepted"; 8 is "under the number of groups"
-  pub index-accepts : NotRefused r ↔ (WithinLimits n t × (zeros t ≤ length hs))
-  index-accepts = go (way c)
-    where
-      go : {r : Indexing} {hs′ : List Head} → Way n t hs r hs′ → NotRefused r ↔ (WithinLimits n t × (zeros t ≤ length hs))
-      go (refused w h) = (λ k. absurd (k w refl), λ k. absurd (h k))
-      go (indexed a h) = (λ _. (a, h), λ _ w q. let z : _≡_ {A = ℕ} 0 1 = cc in omega arith)
+  -- a call by its checks: "Tables: 1, 2, 3, 4, 5, then .. 8 (index)"
+  abbrev checks : Checked
+  checks = firstRefusal (check n t ∷ atMost (zeros t) (length hs) HeadsShort ∷ [])
+
+  by-checks : Refusing indexing.Refused (λ (s : IndexCall). s .answer) (λ w. indexRefused w hs) checks (indexedCall t hs) (called r hs′)
+  unfolding indexCall
+  by-checks = record { is = c .is; turns = λ w. refl; accepts = λ w e. let z : _≡_ {A = ℕ} 0 1 = cc in omega arith }
+
+  checked : (checks ≡ Passed) ↔ Acceptable n t hs
+  checked = both-pass (accepted-exactly n t) (last-passes (most-passes (zeros t) (length hs) HeadsShort))
+
+  -- demand 1: "Every table .. within the limits of document 01, with room lent for the results, is accepted"; "Every other input is refused"
+  pub index-accepts : NotRefused indexing.Refused r ↔ Acceptable n t hs
+  index-accepts = accepted-when by-checks checked
+
+  indexed : NotRefused indexing.Refused r → called r hs′ ≡ indexedCall t hs
+  indexed h = accepted-is by-checks (checked .1 (index-accepts .0 h))
 
   -- 17 indexed
-  pub index-answers : NotRefused r → indexingReceipt r ≡ receipt 17 0 0
-  index-answers = go (way c)
-    where
-      go : {r : Indexing} {hs′ : List Head} → Way n t hs r hs′ → NotRefused r → indexingReceipt r ≡ receipt 17 0 0
-      go (refused w h) k = absurd (k w refl)
-      go (indexed a h) k = refl
+  pub index-answers : NotRefused indexing.Refused r → indexingReceipt r ≡ receipt 17 0 0
+  index-answers h = ap (λ (s : IndexCall). indexingReceipt (s .answer)) (indexed h)
 
   -- demand 1: "a refused call changes no lent element"
   pub index-refused-unchanged : (w : Refusal) → r ≡ indexing.Refused w → hs′ ≡ hs
-  index-refused-unchanged w = go (way c)
-    where
-      go : {r : Indexing} {hs′ : List Head} → Way n t hs r hs′ → r ≡ indexing.Refused w → hs′ ≡ hs
-      go (refused x h) q = refl
-      go (indexed a h) q = absurd (let z : _≡_ {A = ℕ} 0 1 = cc in omega arith)
+  index-refused-unchanged w e = ap (λ (s : IndexCall). s .heads) (unchanged by-checks w e .2)
 
   -- A2: 5 is for the first unknown placement, with its group; "for all other numbers it is 0"
   pub index-names : Names (UnknownInTable n t) (indexingReceipt r)
-  unfolding indexCall
-  index-names = rw (ap (λ (s : IndexCall). s .answer) (c .is)) (check-names n t (λ k. indexingReceipt (indexChecked k t hs .answer)) (λ w. refl)
-      (cond-ind NamesAt _ _ (ltb (length hs) (zeros t)) (λ _. none-named 8 0 0 (λ e. omega arith)) (λ _. none-named 17 0 0 (λ e. omega arith))))
-    where
-      NamesAt : IndexCall → Type 0
-      NamesAt s = Names (UnknownInTable n t) (indexingReceipt (s .answer))
+  index-names = call-names by-checks indexingReceipt (λ w. refl)
+      (first-named _ _ (table-named n t) (first-named _ _ (if-named (ltb (length hs) (zeros t)) HeadsShort (λ e. omega arith)) (passed-named refl)))
+      (none-named 17 0 0 (λ e. omega arith))
+
+  -- 1 to 5 are the table's
+  pub index-table-refused : (w : Refusal) → check n t ≡ Refused w → r ≡ indexing.Refused w
+  index-table-refused w e = refused-with by-checks w (rw e)
+
+  -- 8: "heads short", under the number of groups, of a table within the limits
+  pub index-heads-short : WithinLimits n t → length hs < zeros t → r ≡ indexing.Refused (refusal HeadsShort 0)
+  index-heads-short w h = let a : Accepted n t = accepted-exactly n t .1 w in refused-with by-checks (refusal HeadsShort 0) (rw (a, lt-ltb (length hs) (zeros t) h))
 
   -- "Elements not named are never changed.": the heads past the number of groups
   pub index-rest-kept : drop (zeros t) hs′ ≡ drop (zeros t) hs
-  index-rest-kept = go (way c)
+  index-rest-kept = go checks refl
     where
-      go : {r : Indexing} {hs′ : List Head} → Way n t hs r hs′ → drop (zeros t) hs′ ≡ drop (zeros t) hs
-      go (refused w h) = refl
-      go (indexed a h) = drop-at (headsOf t) (drop (zeros t) hs) (zeros t) (heads-zeros t)
+      go : (k : Checked) → checks ≡ k → drop (zeros t) hs′ ≡ drop (zeros t) hs
+      go (Refused w) e = ap (λ (s : IndexCall). drop (zeros t) (s .heads)) (refused-is by-checks w e)
+      go Passed e = ap (λ (s : IndexCall). drop (zeros t) (s .heads)) (accepted-is by-checks e) ∙ drop-at (headsOf t) (drop (zeros t) hs) (zeros t) (heads-zeros t)
 
   -- 17: what is stored -------------------------------------------------------------------------------------------
   module _ (q : numberOf r ≡ 17) where
     filled : (WithinLimits n t) × (hs′ ≡ over (zeros t) (headsOf t) hs)
-    filled = go (way c) q
-      where
-        go : {r : Indexing} {hs′ : List Head} → Way n t hs r hs′ → numberOf r ≡ 17 → (WithinLimits n t) × (hs′ ≡ over (zeros t) (headsOf t) hs)
-        go (refused w h) q = absurd (not-refused (w .fault) 17 refl q)
-        go (indexed a h) q = (a, refl)
+    filled =
+        let h = number-not-refused indexingReceipt (λ w. refl) r 17 refl q in
+        (index-accepts .0 h .0, ap (λ (s : IndexCall). s .heads) (indexed h))
 
     closed : endsOpen false t ≡ false
     closed = accepted-closed n t (accepted-exactly n t .1 (filled .0))

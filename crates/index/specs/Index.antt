@@ -2,18 +2,16 @@
 use mathlib.Core.Bool.{cond}
 use mathlib.Core.List.{List, [], _∷_, _++_}
 use Prim.Native.Nat.{ℕ, zero, suc, _+_}
-use lib.Dec.{ltb}
 use lib.IntN.{ℤ}
 use lib.ListN.{take, drop}
 use Rattle.receipt.specs.declared.Fault.the-variants.{HeadsShort}
 use Rattle.receipt.specs.declared.Refusal.{Refusal}
 use Rattle.receipt.specs.declared.Checked.{Checked}
-use Rattle.receipt.specs.declared.Checked.the-variants.{Passed, Refused}
 use Rattle.receipt.specs.declared.Indexing.{Indexing}
 use Rattle.receipt.specs.declared.Indexing.the-variants as indexing
 use Rattle.receipt.specs.declared.Head.{Head}
-use Rattle.receipt.specs.Receipt.{refusal}
 use Rattle.theory.specs.Table.{closes, zeros, check}
+use Rattle.theory.specs.Refusing.{atMost, firstRefusal, unless}
 use Rattle.theory.specs.Calls.{IndexCall, indexCall}
 use Rattle.theory.specs.Heads.{head}
 use Rattle.index.specs.declared.Next.{Next}
@@ -37,8 +35,7 @@ abbrev pub dueRefused : Refusal → Due
 dueRefused r = record { answer = indexing.Refused r; heads = 0 }
 
 abbrev pub dueChecked : Checked → ℕ → ℕ → Due
-dueChecked (Refused r) groups room = dueRefused r
-dueChecked Passed groups room = cond (ltb room groups) (dueRefused (refusal HeadsShort 0)) (record { answer = indexing.Indexed; heads = groups })
+dueChecked c groups room = unless (firstRefusal (c ∷ atMost groups room HeadsShort ∷ [])) dueRefused (record { answer = indexing.Indexed; heads = groups })
 
 unfoldable pub dueOf : ℕ → List ℤ → ℕ → Due
 dueOf n t room = dueChecked (check n t) (zeros t) room
