@@ -6,25 +6,24 @@ use mathlib.Core.List.{List, [], _∷_, _++_}
 use mathlib.Core.Option.{Option, none, some}
 use Prim.Native.Nat.{ℕ, _+_, _≤_}
 use native.Mathlib.Omega.{arith}
-use borrow.Author.Tests.{ltb-false, ne-eqb}
-use lib.Dec.{ltb}
+use borrow.Author.Tests.{ne-eqb}
 use lib.IntN.{ℤ, natAbs, pos as posℤ}
 use lib.ListN.{length, getD, take, length-append, List·getD-append}
 use lib.Seq.{length-take-le, take-append-add, take-append-le, getD-append-add}
-use Rattle.general.specs.Booleans.{true-not-false, cond-ind}
+use Rattle.general.specs.Booleans.{true-not-false}
 use Rattle.general.specs.Search.{First, firstPlace, place-some}
 use Rattle.literal.specs.Literal.{maxClauses, maxLiterals}
-use Rattle.receipt.specs.declared.Checked.{Checked}
-use Rattle.receipt.specs.declared.Checked.the-variants.{Passed, Refused}
+use Rattle.receipt.specs.declared.Checked.the-variants.{Refused}
+use Rattle.receipt.specs.declared.Fault.the-variants.{TooManyClauses, TooManyLiterals, UsedLengthWrong}
 use Rattle.receipt.specs.declared.Refusal.{Refusal}
-use Rattle.receipt.specs.Answers.{addingReceipt}
 use Rattle.receipt.specs.Receipt.{namedClause, unknownVariable, refusal}
-use Rattle.theory.specs.Calls.{AddCall, isWrong, listUnknown, unknownIn, addKnown, addChecked, addCall}
+use Rattle.theory.specs.Calls.{isWrong, listUnknown, unknownIn, checkGroup}
 use Rattle.theory.specs.Table.{closes, zeros, nonzeros, endsOpen, check, Accepted}
-use Rattle.theory.specs.Unknown.{Encloses, UnknownInAdd, Names}
+use Rattle.theory.specs.Unknown.{Encloses, UnknownInAdd}
 use Rattle.theory.proofs.Heads.{entry-encloses}
 use Rattle.theory.proofs.Tables.{zeros-append, endsOpen-append, known-variable, accepted-closed, no-zeros-before}
-use Rattle.theory.proofs.Unknown.{check-unknown, none-named, refusal-names}
+use Rattle.theory.proofs.Refusing.{most-passes, NamedBy, passed-named, first-named, most-named}
+use Rattle.theory.proofs.Unknown.{check-unknown}
 
 -- an element that isn't wrong closes nothing
 not-wrong-open : (n : ℕ) (e : ℤ) → isWrong n e ≡ false → closes e ≡ false
@@ -57,9 +56,6 @@ module _ (u n : ℕ) (g b : List ℤ) where
   abbrev t : List ℤ
   t = take u b
 
-  abbrev NamesAt : AddCall → Type 0
-  NamesAt c = Names (UnknownInAdd n t g) (addingReceipt (c .answer))
-
   first-wrong : u ≤ length b → Accepted n t → (w : Refusal) → (o : Option ℕ) → firstPlace (isWrong n) u g ≡ o → listUnknown (zeros t + 1) o ≡ Refused w →
       UnknownInAdd n t g (namedClause (w .fault) .0) (w .place)
   first-wrong l a w none p e = absurd (let z : _≡_ {A = ℕ} 0 1 = cc in omega arith)
@@ -70,17 +66,17 @@ module _ (u n : ℕ) (g b : List ℤ) where
       let place : i ≡ length t + f .0 = omega (arith, f .1, k) in
       rw q (inr (record { used = a; index = f .0; place = place; first = f .2; number = refl; encloses = λ h. subst (Encloses _ _) (sym place) (in-list n t g (accepted-closed n t a) (f .0) (f .2) h) }))
 
-  -- what the list is refused for, and the room after it
-  known-names : u ≤ length b → Accepted n t → (c : Checked) → unknownIn u (zeros t + 1) n g ≡ c → NamesAt (addKnown c u g b)
+  -- what the list is refused for
+  list-named : u ≤ length b → Accepted n t → NamedBy (UnknownInAdd n t g) (unknownIn u (zeros t + 1) n g)
   unfolding unknownIn
-  known-names l a (Refused w) e = refusal-names w (λ _. first-wrong l a w _ refl e)
-  known-names l a Passed e = cond-ind NamesAt _ _ (ltb (length b) (u + length g + 1)) (λ _. none-named 23 0 0 (λ e. omega arith)) (λ _. none-named 15 0 0 (λ e. omega arith))
+  list-named l a = record { named = λ w e _. first-wrong l a w _ refl e }
 
-  checked-names : u ≤ length b → (c : Checked) → check n t ≡ c → NamesAt (addChecked c u n g b)
-  checked-names l (Refused w) e = refusal-names w (λ f. inl (check-unknown n t w e f))
-  checked-names l Passed e = cond-ind NamesAt _ _ (ltb maxClauses (zeros t + 1)) (λ _. none-named 2 0 0 (λ e. omega arith))
-      (λ _. cond-ind NamesAt _ _ (ltb maxLiterals (nonzeros t + length g)) (λ _. none-named 3 0 0 (λ e. omega arith)) (λ _. known-names l e _ refl))
-
-  pub call-names : NamesAt (addCall u n g b)
-  unfolding addCall
-  call-names = cond-ind NamesAt _ _ (ltb (length b) u) (λ _. none-named 12 0 0 (λ e. omega arith)) (λ h. checked-names (ltb-false (length b) u h) (check n t) refl)
+  -- of the checks only those of the used part and of the list refuse with 5
+  pub group-named : NamedBy (UnknownInAdd n t g) (checkGroup u n g b)
+  unfolding checkGroup
+  group-named =
+      first-named _ _ (most-named u (length b) UsedLengthWrong (λ e. omega arith))
+      (λ h. first-named (check n t) _ (record { named = λ w e f. inl (check-unknown n t w e f) })
+      (λ a. first-named _ _ (most-named (zeros t + 1) maxClauses TooManyClauses (λ e. omega arith))
+      (λ _. first-named _ _ (most-named (nonzeros t + length g) maxLiterals TooManyLiterals (λ e. omega arith))
+      (λ _. first-named _ _ (list-named (most-passes u (length b) UsedLengthWrong .0 h) a) (λ _. passed-named refl)))))

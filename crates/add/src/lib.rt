@@ -2,8 +2,9 @@
 ghost use mathlib.Core.Path.{_≡_};
 ghost use Prim.Native.Nat.{_+_, _^_, _<_};
 ghost use lib.ListN.{length};
-ghost use Rattle.theory.specs.Calls.{unknownIn, added, addCall};
-ghost use Rattle.add.specs.Add.{known, firstRefusal, atMost, checkGroup, checkAdded, called};
+ghost use Rattle.theory.specs.Refusing.{atMost, firstOf};
+ghost use Rattle.theory.specs.Calls.{unknownIn, added, checkGroup, checkAdded, addCall};
+ghost use Rattle.add.specs.Add.{known, called};
 use literal::ClauseNumber;
 use literal::Literal;
 use receipt::Adding;
@@ -44,7 +45,7 @@ fn at_most(count: usize, limit: usize, fault: Fault) -> Checked
 
 // Checks run in document 01's order, and the first refusal stays.
 fn first_refusal(first: Checked, second: Checked) -> Checked
-    ensures { λ r. ⌜ r ≡ firstRefusal first second ⌝ }
+    ensures { λ r. ⌜ r ≡ firstOf first second ⌝ }
 {
     match first {
         Checked::Passed => second,

@@ -6,7 +6,6 @@ use mathlib.Core.List.{List, [], _∷_}
 use Prim.Native.Nat.{ℕ, suc, _+_, _-_, _<_, _≤_}
 use native.Mathlib.Omega.{arith}
 use borrow.Author.Tests.{lt-ltb}
-use lib.Dec.{ltb}
 use lib.IntN.{ℤ}
 use lib.ListN.{length, getD, drop, List·getD-append}
 use lib.Seq.{drop-at}
@@ -26,7 +25,7 @@ use Rattle.theory.specs.Refusing.{atMost, firstRefusal, NotRefused}
 use Rattle.theory.specs.Table.{zeros, endsOpen, check, Accepted, WithinLimits}
 use Rattle.theory.specs.Unknown.{Encloses, UnknownInTable, Names}
 use Rattle.theory.proofs.Heads.{clauses-zeros, heads-zeros, heads-hold, first-start, next-start, last-end, in-order}
-use Rattle.theory.proofs.Refusing.{most-passes, both-pass, last-passes, table-named, passed-named, first-named, if-named, number-not-refused, Refusing, accepted-is, refused-is, refused-with, accepted-when, unchanged, call-names}
+use Rattle.theory.proofs.Refusing.{most-passes, both-pass, last-passes, table-named, passed-named, first-named, most-named, number-not-refused, Refusing, accepted-is, refused-with, accepted-when, unchanged, call-cases, call-names}
 use Rattle.theory.proofs.Tables.{accepted-exactly, accepted-closed}
 use Rattle.theory.proofs.Unknown.{none-named}
 use Rattle.index.specs.Index.{called}
@@ -72,7 +71,7 @@ module _ {n : ℕ} {t : List ℤ} {hs : List Head} {r : Indexing} {hs′ : List 
   -- A2: 5 is for the first unknown placement, with its group; "for all other numbers it is 0"
   pub index-names : Names (UnknownInTable n t) (indexingReceipt r)
   index-names = call-names by-checks indexingReceipt (λ w. refl)
-      (first-named _ _ (table-named n t) (first-named _ _ (if-named (ltb (length hs) (zeros t)) HeadsShort (λ e. omega arith)) (passed-named refl)))
+      (first-named _ _ (table-named n t) (λ _. first-named _ _ (most-named (zeros t) (length hs) HeadsShort (λ e. omega arith)) (λ _. passed-named refl)))
       (none-named 17 0 0 (λ e. omega arith))
 
   -- 1 to 5 are the table's
@@ -85,11 +84,7 @@ module _ {n : ℕ} {t : List ℤ} {hs : List Head} {r : Indexing} {hs′ : List 
 
   -- "Elements not named are never changed.": the heads past the number of groups
   pub index-rest-kept : drop (zeros t) hs′ ≡ drop (zeros t) hs
-  index-rest-kept = go checks refl
-    where
-      go : (k : Checked) → checks ≡ k → drop (zeros t) hs′ ≡ drop (zeros t) hs
-      go (Refused w) e = ap (λ (s : IndexCall). drop (zeros t) (s .heads)) (refused-is by-checks w e)
-      go Passed e = ap (λ (s : IndexCall). drop (zeros t) (s .heads)) (accepted-is by-checks e) ∙ drop-at (headsOf t) (drop (zeros t) hs) (zeros t) (heads-zeros t)
+  index-rest-kept = call-cases by-checks (λ s. drop (zeros t) (s .heads) ≡ drop (zeros t) hs) (λ w e. refl) (λ e. drop-at (headsOf t) (drop (zeros t) hs) (zeros t) (heads-zeros t))
 
   -- 17: what is stored -------------------------------------------------------------------------------------------
   module _ (q : numberOf r ≡ 17) where

@@ -12,7 +12,7 @@ use lib.Dec.{ltb}
 use lib.IntN.{ℤ}
 use lib.ListN.{length, getD, take, drop, replicate, length-take, length-replicate}
 use lib.Seq.{take-at, drop-at, take-nil}
-use Rattle.general.specs.Booleans.{bit, cond-ind, true-not-false}
+use Rattle.general.specs.Booleans.{bit, true-not-false}
 use Rattle.general.specs.Lists.{mem-getD, mem-index}
 use Rattle.receipt.specs.declared.Checked.{Checked}
 use Rattle.receipt.specs.declared.Checked.the-variants.{Passed, Refused}
@@ -21,15 +21,15 @@ use Rattle.receipt.specs.declared.Listing.the-variants as listing
 use Rattle.receipt.specs.declared.Outcome.{Outcome}
 use Rattle.receipt.specs.declared.Outcome.the-variants.{LaidOut, NoLayout, Stopped}
 use Rattle.receipt.specs.declared.Refusal.{Refusal}
-use Rattle.receipt.specs.Receipt.{unknownVariable, outcomeNumber, refusal}
-use Rattle.receipt.specs.Answers.{listingReceipt, saysMore}
-use Rattle.receipt.proofs.Numbers.{outcome-answers, same-outcome}
-use Rattle.receipt.proofs.Numbers as numbers
-use Rattle.theory.specs.Calls.{over, SearchCall, ListCall, listedCall, listRefused, listChecked, listCall}
+use Rattle.receipt.specs.Receipt.{outcomeNumber, refusal, receipt}
+use Rattle.receipt.specs.Answers.{listingReceipt, rowsWritten, saysMore}
+use Rattle.receipt.proofs.Numbers.{same-outcome}
+use Rattle.theory.specs.Calls.{over, SearchCall, ListCall, listedCall, listRefused, listCall}
 use Rattle.theory.specs.Formula.{Choice, clauses, Solution}
 use Rattle.theory.specs.Layouts.{layouts}
 use Rattle.theory.specs.Listing.{listTree, listNeeds, list, rowBytes, rowsOf}
 use Rattle.theory.specs.Order.{_≺_}
+use Rattle.theory.specs.Refusing.{atMost, firstRefusal, NotRefused}
 use Rattle.theory.specs.Table.{check, Accepted, WithinLimits}
 use Rattle.theory.specs.Tree.{Found, choicesFound, Result, finished, stop}
 use Rattle.theory.specs.Unknown.{UnknownInTable, Names}
@@ -42,70 +42,61 @@ use Rattle.theory.proofs.Listing.{list-layouts}
 use Rattle.theory.proofs.ListingBound.{list-under, list-bound, list-bound-all}
 use Rattle.theory.proofs.Order.{≼-antisym}
 use Rattle.theory.proofs.Rows.{rows-whole, rows-row, rows-zero, bits-same}
-use Rattle.theory.proofs.Tables.{accepted-sizes, accepted-exactly}
+use Rattle.theory.proofs.Refusing.{most-passes, both-pass, last-passes, table-named, passed-named, first-named, most-named, outcome-names, Refusing, accepted-is, refused-with, accepted-when, unchanged, call-names}
+use Rattle.theory.proofs.Tables.{accepted-exactly}
 use Rattle.theory.proofs.Tree.{choices-length}
-use Rattle.theory.proofs.Unknown.{none-named, check-names}
 use Rattle.search.specs.Call as search
-use Rattle.search.proofs.Promises.{first-layout, layout-when-some}
-use Rattle.list.specs.Call.{Acceptable, Call, NotRefused, Reports, countOf, placeOf, More, RowIs, Alike}
-use Rattle.list.proofs.Calling.{call-refused, call-rows-short, call-accepted}
+use Rattle.search.proofs.Promises.{search-first-layout, search-layout-when-some}
+use Rattle.list.specs.Call.{Acceptable, Call, Reports, countOf, placeOf, More, RowIs, Alike}
 
 -- what is accepted -------------------------------------------------------------------------------------------------
 
--- an acceptable call is a listing of the table
+-- a call by its checks: "Turned away: 1 to 5, then 27, row room under k times n."
+module _ (n : ℕ) (t : List ℤ) (k b : ℕ) (rows : List ℕ) (s : ListCall) (is : s ≡ listCall n t k b rows) where
+  abbrev checks : Checked
+  checks = firstRefusal (check n t ∷ atMost (k * n) (length rows) RowsShort ∷ [])
+
+  by-checks : Refusing listing.Refused (λ (u : ListCall). u .answer) (λ w. listRefused w rows) checks (listedCall n k (list n t k b) rows) s
+  unfolding listCall
+  by-checks = record { is = is; turns = λ w. refl; accepts = λ w e. let z : _≡_ {A = ℕ} 0 1 = cc in omega arith }
+
+  checked : (checks ≡ Passed) ↔ Acceptable n t k rows
+  checked =
+      let p = both-pass (accepted-exactly n t) (last-passes (most-passes (k * n) (length rows) RowsShort)) in
+      (λ e. let h = p .0 e in record { table = h .0; room = h .1 }, λ a. p .1 (a .table, a .room))
+
+  -- an acceptable call is a listing of the table
+  is-listed : Acceptable n t k rows → s ≡ listedCall n k (list n t k b) rows
+  is-listed a = accepted-is by-checks (checked .1 a)
+
+  -- demand 1: "Every table .. within the limits of document 01, with room lent for the results, is accepted"; "Every other input is refused"
+  pub list-accepts : NotRefused listing.Refused (s .answer) ↔ Acceptable n t k rows
+  list-accepts = accepted-when by-checks checked
+
+  -- 0 laid out, 10 no layout, 11 stopped, with the count; "place is the rows written"
+  pub list-answers : NotRefused listing.Refused (s .answer) → (o : Outcome) × (c : ℕ) × (listingReceipt (s .answer) ≡ receipt (outcomeNumber o) (rowsWritten (s .answer)) c)
+  list-answers h = let r = list n t k b in (r .outcome, r .count, rw (is-listed (list-accepts .0 h)))
+
+  -- demand 1: "a refused call changes no lent element"; and it has no "more"
+  pub list-refused-unchanged : (w : Refusal) → s .answer ≡ listing.Refused w → (s .rows ≡ rows) × ¬ More s
+  list-refused-unchanged w e = (ap (λ (u : ListCall). u .rows) (unchanged by-checks w e .2), λ m. true-not-false m (ap saysMore e))
+
+  -- A2: 5 is for the first unknown placement, with its group; "for all other numbers it is 0"
+  pub list-names : Names (UnknownInTable n t) (listingReceipt (s .answer))
+  list-names = call-names by-checks listingReceipt (λ w. refl)
+      (first-named _ _ (table-named n t) (λ _. first-named _ _ (most-named (k * n) (length rows) RowsShort (λ e. omega arith)) (λ _. passed-named refl)))
+      (outcome-names (list n t k b .outcome) _ _)
+
+  -- "Turned away: 1 to 5,
+  pub list-table-refused : (w : Refusal) → check n t ≡ Refused w → s .answer ≡ listing.Refused w
+  list-table-refused w e = refused-with by-checks w (rw e)
+
+  -- then 27, row room under k times n."
+  pub list-rows-short : WithinLimits n t → length rows < k * n → s .answer ≡ listing.Refused (refusal RowsShort 0)
+  list-rows-short w h = let a : Accepted n t = accepted-exactly n t .1 w in refused-with by-checks (refusal RowsShort 0) (rw (a, lt-ltb (length rows) (k * n) h))
+
 listed : {n : ℕ} {t : List ℤ} {k b : ℕ} {rows : List ℕ} {s : ListCall} → Call n t k b rows s → s ≡ listedCall n k (list n t k b) rows
-listed {n} {t} {k} {b} {rows} c = let h = c .acceptable in c .is ∙ sym (call-accepted n t k b rows (accepted-exactly n t .1 (h .table)) (h .room))
-
-module _ (n : ℕ) (t : List ℤ) (k b : ℕ) (rows : List ℕ) where
-  -- a call that is refused
-  abbrev Turned : Type 0
-  Turned = (w : Refusal) × (listRefused w rows ≡ listCall n t k b rows) × ¬ Acceptable n t k rows
-
-  fate : Turned ⊎ Acceptable n t k rows
-  fate = go (check n t) refl
-    where
-      go : (o : Checked) → check n t ≡ o → Turned ⊎ Acceptable n t k rows
-      go (Refused w) e = inl (w, call-refused n t k b rows w e, λ h. let z : _≡_ {A = ℕ} 0 1 = cc (accepted-exactly n t .1 (h .table)) in omega arith)
-      go Passed e = elim (decLt (length rows) (k * n)) [
-        | yes h ↦ inl (_, call-rows-short n t k b rows e h, λ a. omega (arith, a .room))
-        | no h ↦ inr (record { table = accepted-sizes n t e; room = omega arith })
-      ]
-
-  -- past the check of the table no call is refused with 5
-  passed-names : {Where : ℕ → ℕ → Type 0} → Names Where (listingReceipt (listChecked Passed n t k b rows .answer))
-  passed-names {Where} = cond-ind NamesAt _ _ (ltb (length rows) (k * n)) (λ _. none-named 27 0 0 (λ e. omega arith))
-      (λ _. none-named _ _ _ (λ e. numbers.not-refused (unknownVariable 0) _ (outcome-answers (list n t k b .outcome)) (sym e)))
-    where
-      NamesAt : ListCall → Type 0
-      NamesAt c = Names Where (listingReceipt (c .answer))
-
-  module _ (s : ListCall) (is : s ≡ listCall n t k b rows) where
-    not-refused : Acceptable n t k rows → NotRefused s
-    not-refused h w e = let z : _≡_ {A = ℕ} 0 1 = cc (ap (λ (u : ListCall). u .answer) (listed (record { acceptable = h; is = is }))) in omega arith
-
-    -- demand 1: "Every table .. within the limits of document 01, with room lent for the results, is accepted"; "Every other input is refused"
-    pub list-accepts : NotRefused s ↔ Acceptable n t k rows
-    list-accepts = (λ a. ⊎-elim (λ r. absurd (a (r .0) (ap (λ (u : ListCall). u .answer) (is ∙ sym (r .1))))) (λ h. h) fate, not-refused)
-
-    -- demand 1: "a refused call changes no lent element"; and it has no "more"
-    pub list-refused-unchanged : (w : Refusal) → s .answer ≡ listing.Refused w → (s .rows ≡ rows) × ¬ More s
-    list-refused-unchanged w e = (
-      ⊎-elim (λ r. ap (λ (u : ListCall). u .rows) (is ∙ sym (r .1))) (λ h. absurd (not-refused h w e)) fate,
-      λ m. true-not-false m (ap saysMore e),
-    )
-
-    -- "Turned away: 1 to 5,
-    pub list-table-refused : (w : Refusal) → check n t ≡ Refused w → s .answer ≡ listing.Refused w
-    list-table-refused w e = ap (λ (u : ListCall). u .answer) (is ∙ sym (call-refused n t k b rows w e))
-
-    -- then 27, row room under k times n."
-    pub list-rows-short : WithinLimits n t → length rows < k * n → s .answer ≡ listing.Refused (refusal RowsShort 0)
-    list-rows-short h l = ap (λ (u : ListCall). u .answer) (is ∙ sym (call-rows-short n t k b rows (accepted-exactly n t .1 h) l))
-
-    -- A2: 5 is for the first unknown placement, with its group; "for all other numbers it is 0"
-    pub list-names : Names (UnknownInTable n t) (listingReceipt (s .answer))
-    unfolding listCall
-    list-names = rw is (check-names n t (λ o. listingReceipt (listChecked o n t k b rows .answer)) (λ w. refl) passed-names)
+listed c = is-listed _ _ _ _ _ _ (c .is) (c .acceptable)
 
 -- accepted calls ---------------------------------------------------------------------------------------------------
 
@@ -336,7 +327,7 @@ module _ {n : ℕ} {t : List ℤ} {k b : ℕ} {rows : List ℕ} {s : ListCall} (
   list-first-row h v unstopped =
       let ends = row-finishes 0 h in
       let one = layouts-first n (clauses t) [] (omega (arith, list-place ends)) in
-      let w = first-layout v (layout-when-some v unstopped (getD all 0 []) (one .member)) in
+      let w = search-first-layout v (search-layout-when-some v unstopped (getD all 0 []) (one .member)) in
       let front : 0 * n ≡ 0 = zero-mul n in
       rw front at (row-bytes ends 0 h []) ∙
       ap (map bit) (≼-antisym (getD all 0 []) (w .0) (one .least (w .0) (w .1 .member)) (w .1 .least (getD all 0 []) (one .member))) ∙

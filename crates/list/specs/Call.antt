@@ -7,9 +7,7 @@ use lib.IntN.{ℤ}
 use lib.ListN.{length, take, drop}
 use Rattle.general.specs.Booleans.{bit}
 use Rattle.receipt.specs.declared.Listing.{Listing}
-use Rattle.receipt.specs.declared.Listing.the-variants.{Refused}
 use Rattle.receipt.specs.declared.Outcome.{Outcome}
-use Rattle.receipt.specs.declared.Refusal.{Refusal}
 use Rattle.receipt.specs.Receipt.{outcomeNumber}
 use Rattle.receipt.specs.Answers.{listingReceipt, saysMore}
 use Rattle.theory.specs.Calls.{ListCall, listCall}
@@ -29,10 +27,6 @@ pub record Acceptable (n : ℕ) (t : List ℤ) (k : ℕ) (rows : List ℕ) : Typ
 pub record Call (n : ℕ) (t : List ℤ) (k b : ℕ) (rows : List ℕ) (s : ListCall) : Type 0 where
   pub acceptable : Acceptable n t k rows
   pub is : s ≡ listCall n t k b rows
-
--- "accepted when it isn't refused"
-abbrev pub NotRefused : ListCall → Type 0
-NotRefused s = (w : Refusal) → ¬ (s .answer ≡ Refused w)
 
 -- how it ended, by its number on the receipt, the count there, "place is the rows written", and whether "the answer says "more""
 abbrev pub Reports : ListCall → Outcome → Type 0

@@ -1,38 +1,32 @@
 -- The ways in which a call of Save ends, as `saveCall` has them.
-use mathlib.Core.Path.{_≡_, refl}
-use mathlib.Core.Bool.{Bool, true, false, cond}
+use mathlib.Core.Path.{_≡_}
+use mathlib.Core.Bool.{false, not}
 use mathlib.Core.List.{List}
 use Prim.Native.Nat.{ℕ, _≤_, _<_}
 use native.Mathlib.Omega.{arith}
-use borrow.Author.Tests.{lt-ltb, le-ltb}
+use borrow.Author.Tests.{lt-ltb, le-ltb, not-false}
 use lib.IntN.{ℤ}
 use lib.ListN.{length}
 use Rattle.general.specs.Appending.{Appended}
-use Rattle.receipt.specs.declared.Checked.{Checked}
 use Rattle.receipt.specs.declared.Checked.the-variants as checked
 use Rattle.receipt.specs.declared.Fault.the-variants.{StripShort, UnmentionedVariable}
 use Rattle.receipt.specs.declared.Refusal.{Refusal}
 use Rattle.receipt.specs.declared.Saving.the-variants.{Saved, Refused}
 use Rattle.receipt.specs.Receipt.{refusal}
-use Rattle.theory.specs.Table.{zeros, nonzeros, refused, check, Accepted}
+use Rattle.theory.specs.Table.{zeros, nonzeros, check, Accepted}
 use Rattle.theory.specs.Mentions.{mentionsAll, Mentioned}
 use Rattle.theory.specs.Encoding.{savedStrip, savedLength}
-use Rattle.theory.specs.Calls.{thenMentioned, saveCheck, saveCall}
+use Rattle.theory.specs.Calls.{saveCheck, saveCall}
 use Rattle.theory.proofs.Encodings.{saved-length}
+use Rattle.theory.proofs.Refusing.{if-passes, first-passed}
 use Rattle.save.specs.Save.{called}
 
 -- a table that Save accepts, where there is room
 pub save-passed : (n : ℕ) (t : List ℤ) → saveCheck n t ≡ checked.Passed → Accepted n t × Mentioned n t
 unfolding saveCheck
-save-passed n t = go (check n t) refl
-  where
-    all : (m : Bool) → mentionsAll n t ≡ m → cond m checked.Passed (refused UnmentionedVariable 0) ≡ checked.Passed → Mentioned n t
-    all true q h = q
-    all false q h = absurd (let z : _≡_ {A = ℕ} 0 1 = cc in omega arith)
-
-    go : (c : Checked) → check n t ≡ c → thenMentioned n t c ≡ checked.Passed → Accepted n t × Mentioned n t
-    go (checked.Refused r) e h = absurd (let z : _≡_ {A = ℕ} 0 1 = cc in omega arith)
-    go checked.Passed e h = (e, all (mentionsAll n t) refl h)
+save-passed n t e =
+    let x = first-passed (check n t) _ .0 e in
+    (x .0, not-false (mentionsAll n t) (if-passes (not (mentionsAll n t)) UnmentionedVariable .0 (first-passed _ checked.Passed .0 (x .1) .0)))
 
 pub passed-save : (n : ℕ) (t : List ℤ) → Accepted n t → Mentioned n t → saveCheck n t ≡ checked.Passed
 unfolding saveCheck

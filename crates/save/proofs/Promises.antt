@@ -1,17 +1,16 @@
 -- What a call of Save promises, by its receipt and the strip buffer after it; and that Save and Read bring each other back.
 -- All of it follows from the equations that `save` and `read` ensure.
-use mathlib.Core.Path.{_≡_, refl, ap, sym, subst, _∙_}
-use mathlib.Core.Bool.{Bool, true, false, cond}
+use mathlib.Core.Path.{_≡_, refl, ap, sym, _∙_}
+use mathlib.Core.Bool.{not}
 use mathlib.Core.Logic.{_↔_, _≢_}
-use mathlib.Core.List.{List}
+use mathlib.Core.List.{List, [], _∷_}
 use Prim.Native.Nat.{ℕ, _≤_, _<_}
 use native.Mathlib.Omega.{arith}
-use borrow.Author.Tests.{lt-ltb, le-ltb, ltb-true, ltb-false}
-use lib.Dec.{ltb}
+use borrow.Author.Tests.{lt-ltb, le-ltb}
 use lib.IntN.{ℤ}
 use lib.ListN.{length, take, drop}
 use lib.Seq.{take-at, drop-at}
-use Rattle.general.specs.Booleans.{false-unless, cond-ind}
+use Rattle.general.specs.Booleans.{false-unless}
 use Rattle.receipt.specs.Receipt.{numberOf, done, receipt, refusal}
 use Rattle.receipt.specs.Answers.{savingReceipt, readingReceipt}
 use Rattle.receipt.specs.declared.Checked.{Checked}
@@ -22,16 +21,17 @@ use Rattle.receipt.specs.declared.Reading.the-variants.{Read}
 use Rattle.receipt.specs.declared.Refusal.{Refusal}
 use Rattle.receipt.specs.declared.Saving.{Saving}
 use Rattle.receipt.specs.declared.Saving.the-variants.{Saved, Refused}
-use Rattle.receipt.proofs.Numbers.{not-refused}
-use Rattle.theory.specs.Calls.{over, SaveCall, thenMentioned, saveCheck, saveChecked, saveCall, readCall}
+use Rattle.theory.specs.Calls.{over, SaveCall, saveRefused, savedCall, saveCheck, saveCall, readCall}
 use Rattle.theory.specs.Encoding.{savedStrip, savedLength, Unchaptered, Bytes}
 use Rattle.theory.specs.Mentions.{mentionsAll, Mentioned}
+use Rattle.theory.specs.Refusing.{atMost, firstRefusal, NotRefused}
 use Rattle.theory.specs.Strip.{Decoding, readStrip}
 use Rattle.theory.specs.Table.{zeros, nonzeros, check, Accepted, WithinLimits}
 use Rattle.theory.specs.Unknown.{UnknownInTable, Names}
 use Rattle.theory.proofs.Encodings.{saved-length, saved-short}
+use Rattle.theory.proofs.Refusing.{most-passes, first-passed, last-passes, table-named, passed-named, first-named, if-named, most-named, number-not-refused, Refusing, accepted-is, refused-with, accepted-when, unchanged, call-cases, call-names}
 use Rattle.theory.proofs.Tables.{accepted-sizes, accepted-exactly}
-use Rattle.theory.proofs.Unknown.{none-named, check-names}
+use Rattle.theory.proofs.Unknown.{none-named}
 use Rattle.strip.specs.Decoding.{called as readCalled}
 use Rattle.strip.proofs.Accepted.{read-accepted}
 use Rattle.strip.proofs.Ends.{read-mentioned}
@@ -39,9 +39,6 @@ use Rattle.strip.proofs.Promises.{read-used, read-too-long}
 use Rattle.save.specs.Save.{called}
 use Rattle.save.proofs.Calling.{save-passed, passed-save}
 use Rattle.save.proofs.RoundTrip.{saved-reads, read-saves}
-
-abbrev pub NotRefused : Saving → Type 0
-NotRefused r = (w : Refusal) → ¬ (r ≡ Refused w)
 
 -- a call of Save: its answer r, and the strip buffer before and after it
 pub record Call (n : ℕ) (t : List ℤ) (s : List ℕ) (r : Saving) (s′ : List ℕ) : Type 0 where
@@ -51,98 +48,83 @@ pub record Call (n : ℕ) (t : List ℤ) (s : List ℕ) (r : Saving) (s′ : Lis
 abbrev pub Savable : ℕ → List ℤ → List ℕ → Type 0
 Savable n t s = WithinLimits n t × Mentioned n t × (savedLength (zeros t) (nonzeros t) ≤ length s)
 
--- the two ways in which a call ends
-data Way (n : ℕ) (t : List ℤ) (s : List ℕ) : Saving → List ℕ → Type 0 where
-  refused : (w : Refusal) → ¬ Savable n t s → Way n t s (Refused w) s
-  saved : Accepted n t → Mentioned n t → length (savedStrip n t) ≤ length s → Way n t s (Saved (length (savedStrip n t))) (over (length (savedStrip n t)) (savedStrip n t) s)
-
-abbrev By : ℕ → List ℤ → List ℕ → SaveCall → Type 0
-By n t s k = Way n t s (k .answer) (k .strip)
-
-way : {n : ℕ} {t : List ℤ} {s : List ℕ} {r : Saving} {s′ : List ℕ} → Call n t s r s′ → Way n t s r s′
-unfolding saveCall
-way {n} {t} {s} c = subst (By n t s) (sym (c .is)) (go (saveCheck n t) refl)
-  where
-    go : (k : Checked) → saveCheck n t ≡ k → By n t s (saveChecked k n t s)
-    go (checked.Refused w) e = refused w (λ h. let z : _≡_ {A = ℕ} 0 1 = cc (passed-save n t (accepted-exactly n t .1 (h .0)) (h .1)) in omega arith)
-    go checked.Passed e =
-        let p = save-passed n t e in
-        cond-ind (By n t s) _ _ (ltb (length s) (length (savedStrip n t)))
-        (λ b. refused _ (λ h. omega (arith, h .2, saved-length n t (p .0), ltb-true (length s) (length (savedStrip n t)) b)))
-        (λ b. saved (p .0) (p .1) (ltb-false (length s) (length (savedStrip n t)) b))
-
 module _ {n : ℕ} {t : List ℤ} {s : List ℕ} {r : Saving} {s′ : List ℕ} (c : Call n t s r s′) where
+  -- a call by its checks: "1 to 5 as for any table", 26 "in saving after 5 and before 25"
+  abbrev checks : Checked
+  checks = firstRefusal (saveCheck n t ∷ atMost (length (savedStrip n t)) (length s) StripShort ∷ [])
+
+  by-checks : Refusing Refused (λ (k : SaveCall). k .answer) (λ w. saveRefused w s) checks (savedCall (savedStrip n t) s) (called r s′)
+  unfolding saveCall
+  by-checks = record { is = c .is; turns = λ w. refl; accepts = λ w e. let z : _≡_ {A = ℕ} 0 1 = cc in omega arith }
+
+  checked : (checks ≡ checked.Passed) ↔ Savable n t s
+  checked = (
+    λ e.
+        let x = first-passed (saveCheck n t) _ .0 e in
+        let p = save-passed n t (x .0) in
+        (accepted-sizes n t (p .0), p .1, omega (arith, last-passes (most-passes (length (savedStrip n t)) (length s) StripShort) .0 (x .1), saved-length n t (p .0))),
+    λ (l, m, h).
+        let a : Accepted n t = accepted-exactly n t .1 l in
+        first-passed (saveCheck n t) _ .1 (passed-save n t a m, last-passes (most-passes (length (savedStrip n t)) (length s) StripShort) .1 (omega (arith, saved-length n t a))),
+  )
+
   -- demand 1, of Save: a table within the limits that names every placement, with room lent, is accepted
-  pub save-accepts : NotRefused r ↔ Savable n t s
-  save-accepts = go (way c)
-    where
-      go : {r : Saving} {s′ : List ℕ} → Way n t s r s′ → NotRefused r ↔ Savable n t s
-      go (refused w h) = (λ k. absurd (k w refl), λ k. absurd (h k))
-      go (saved a m h) = (λ _. (accepted-sizes n t a, m, omega (arith, saved-length n t a)), λ _ w q. let z : _≡_ {A = ℕ} 0 1 = cc in omega arith)
+  pub save-accepts : NotRefused Refused r ↔ Savable n t s
+  save-accepts = accepted-when by-checks checked
+
+  saved : Savable n t s → called r s′ ≡ savedCall (savedStrip n t) s
+  saved h = accepted-is by-checks (checked .1 h)
 
   -- "Success is 18, done"; "place is its length"
-  pub save-answers : NotRefused r → savingReceipt r ≡ receipt done (savedLength (zeros t) (nonzeros t)) 0
-  save-answers = go (way c)
-    where
-      go : {r : Saving} {s′ : List ℕ} → Way n t s r s′ → NotRefused r → savingReceipt r ≡ receipt done (savedLength (zeros t) (nonzeros t)) 0
-      go (refused w h) k = absurd (k w refl)
-      go (saved a m h) k = ap (λ (x : ℕ). receipt done x 0) (saved-length n t a)
-
-  -- "Turned away: 1 to 5 as for any table"
-  pub save-table-refused : (w : Refusal) → check n t ≡ checked.Refused w → r ≡ Refused w
-  unfolding saveCall saveCheck
-  save-table-refused w e = ap (λ (k : SaveCall). k .answer) (c .is) ∙ rw e
-
-  -- A3: 26 "in saving after 5 and before 25", place 0
-  pub save-unmentioned : WithinLimits n t → ¬ Mentioned n t → r ≡ Refused (refusal UnmentionedVariable 0)
-  unfolding saveCall saveCheck
-  save-unmentioned w h =
-      let a : Accepted n t = accepted-exactly n t .1 w in
-      ap (λ (k : SaveCall). k .answer) (c .is) ∙ rw (a, false-unless (mentionsAll n t) h)
-
-  -- "then 25, strip room short"
-  pub save-strip-short : WithinLimits n t → Mentioned n t → length s < savedLength (zeros t) (nonzeros t) → r ≡ Refused (refusal StripShort 0)
-  unfolding saveCall saveCheck
-  save-strip-short w m h =
-      let a : Accepted n t = accepted-exactly n t .1 w in
-      ap (λ (k : SaveCall). k .answer) (c .is) ∙ rw (a, m, lt-ltb (length s) (length (savedStrip n t)) (omega (arith, saved-length n t a)))
-
-  -- A2: 5 is for the first unknown placement, with its group; "for all other numbers it is 0"
-  pub save-names : Names (UnknownInTable n t) (savingReceipt r)
-  unfolding saveCall saveCheck
-  save-names = rw (ap (λ (k : SaveCall). k .answer) (c .is)) (check-names n t (λ k. savingReceipt (saveChecked (thenMentioned n t k) n t s .answer)) (λ w. refl) (passed (mentionsAll n t)))
-    where
-      NamesAt : SaveCall → Type 0
-      NamesAt k = Names (UnknownInTable n t) (savingReceipt (k .answer))
-
-      passed : (m : Bool) → NamesAt (saveChecked (cond m checked.Passed (checked.Refused (refusal UnmentionedVariable 0))) n t s)
-      passed true = cond-ind NamesAt _ _ (ltb (length s) (length (savedStrip n t))) (λ _. none-named 25 0 0 (λ e. omega arith)) (λ _. none-named done _ 0 (λ e. omega arith))
-      passed false = none-named 26 0 0 (λ e. omega arith)
+  pub save-answers : NotRefused Refused r → savingReceipt r ≡ receipt done (savedLength (zeros t) (nonzeros t)) 0
+  save-answers h =
+      let a = save-accepts .0 h in
+      ap (λ (k : SaveCall). savingReceipt (k .answer)) (saved a) ∙ ap (λ (x : ℕ). receipt done x 0) (saved-length n t (accepted-exactly n t .1 (a .0)))
 
   -- "On refusal the strip buffer is untouched"
   pub save-refused-unchanged : (w : Refusal) → r ≡ Refused w → s′ ≡ s
-  save-refused-unchanged w = go (way c)
-    where
-      go : {r : Saving} {s′ : List ℕ} → Way n t s r s′ → r ≡ Refused w → s′ ≡ s
-      go (refused x h) q = refl
-      go (saved a m h) q = absurd (let z : _≡_ {A = ℕ} 0 1 = cc in omega arith)
+  save-refused-unchanged w e = ap (λ (k : SaveCall). k .strip) (unchanged by-checks w e .2)
+
+  -- A2: 5 is for the first unknown placement, with its group; "for all other numbers it is 0"
+  pub save-names : Names (UnknownInTable n t) (savingReceipt r)
+  unfolding saveCheck
+  save-names = call-names by-checks savingReceipt (λ w. refl)
+      (first-named _ _ (first-named _ _ (table-named n t) (λ _. first-named _ _ (if-named (not (mentionsAll n t)) UnmentionedVariable (λ e. omega arith)) (λ _. passed-named refl)))
+      (λ _. first-named _ _ (most-named (length (savedStrip n t)) (length s) StripShort (λ e. omega arith)) (λ _. passed-named refl)))
+      (none-named done _ 0 (λ e. omega arith))
+
+  -- "Turned away: 1 to 5 as for any table"
+  pub save-table-refused : (w : Refusal) → check n t ≡ checked.Refused w → r ≡ Refused w
+  unfolding saveCheck
+  save-table-refused w e = refused-with by-checks w (rw e)
+
+  -- A3: 26 "in saving after 5 and before 25", place 0
+  pub save-unmentioned : WithinLimits n t → ¬ Mentioned n t → r ≡ Refused (refusal UnmentionedVariable 0)
+  unfolding saveCheck
+  save-unmentioned w h =
+      let a : Accepted n t = accepted-exactly n t .1 w in
+      refused-with by-checks (refusal UnmentionedVariable 0) (rw (a, false-unless (mentionsAll n t) h))
+
+  -- "then 25, strip room short"
+  pub save-strip-short : WithinLimits n t → Mentioned n t → length s < savedLength (zeros t) (nonzeros t) → r ≡ Refused (refusal StripShort 0)
+  save-strip-short w m h =
+      let a : Accepted n t = accepted-exactly n t .1 w in
+      refused-with by-checks (refusal StripShort 0) (rw (passed-save n t a m, lt-ltb (length s) (length (savedStrip n t)) (omega (arith, saved-length n t a))))
 
   -- "past the written bytes it is untouched always"
   pub save-rest-kept : drop (length (savedStrip n t)) s′ ≡ drop (length (savedStrip n t)) s
-  save-rest-kept = go (way c)
-    where
-      go : {r : Saving} {s′ : List ℕ} → Way n t s r s′ → drop (length (savedStrip n t)) s′ ≡ drop (length (savedStrip n t)) s
-      go (refused w h) = refl
-      go (saved a m h) = drop-at (savedStrip n t) _ _ refl
+  save-rest-kept =
+      call-cases by-checks (λ k. drop (length (savedStrip n t)) (k .strip) ≡ drop (length (savedStrip n t)) s) (λ w e. refl) (λ e. drop-at (savedStrip n t) _ _ refl)
 
   -- 18: what is written ----------------------------------------------------------------------------------------------
   module _ (q : savingReceipt r .number ≡ done) where
     written : Accepted n t × Mentioned n t × (take (savingReceipt r .place) s′ ≡ savedStrip n t)
-    written = go (way c) q
-      where
-        go : {r : Saving} {s′ : List ℕ} → Way n t s r s′ → savingReceipt r .number ≡ done → Accepted n t × Mentioned n t × (take (savingReceipt r .place) s′ ≡ savedStrip n t)
-        go (refused w h) q = absurd (not-refused (w .fault) done refl q)
-        go (saved a m h) q = (a, m, take-at (savedStrip n t) _ _ refl)
+    written =
+        let a = save-accepts .0 (number-not-refused savingReceipt (λ w. refl) r done refl q) in (
+          accepted-exactly n t .1 (a .0),
+          a .1,
+          ap (λ (k : SaveCall). take (savingReceipt (k .answer) .place) (k .strip)) (saved a) ∙ take-at (savedStrip n t) _ _ refl,
+        )
 
     -- the first bytes, as many as place says, are the strip of the table
     pub save-writes : take (savingReceipt r .place) s′ ≡ savedStrip n t

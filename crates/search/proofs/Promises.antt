@@ -7,7 +7,6 @@ use Prim.Native.Nat.{ℕ, _-_, _≤_, _<_, min}
 use native.Mathlib.Decide.{decLe}
 use native.Mathlib.Omega.{arith}
 use borrow.Author.Tests.{lt-ltb, le-ltb}
-use lib.Dec.{ltb}
 use lib.IntN.{ℤ, pos as posℤ}
 use lib.ListN.{length, take, drop, replicate}
 use lib.Seq.{take-at, drop-at}
@@ -20,10 +19,9 @@ use Rattle.receipt.specs.declared.Outcome.{Outcome}
 use Rattle.receipt.specs.declared.Outcome.the-variants.{LaidOut, NoLayout, Stopped}
 use Rattle.receipt.specs.declared.Refusal.{Refusal}
 use Rattle.receipt.specs.declared.Searching.the-variants as searching
-use Rattle.receipt.specs.Receipt.{unknownVariable, outcomeNumber, refusal, receipt}
+use Rattle.receipt.specs.Receipt.{outcomeNumber, refusal, receipt}
 use Rattle.receipt.specs.Answers.{searchingReceipt}
-use Rattle.receipt.proofs.Numbers.{outcome-answers, same-outcome}
-use Rattle.receipt.proofs.Numbers as numbers
+use Rattle.receipt.proofs.Numbers.{same-outcome}
 use Rattle.theory.specs.Bound.{N}
 use Rattle.theory.specs.Calls.{SearchCall, searchedCall, searchRefused, searchCall}
 use Rattle.theory.specs.Formula.{Choice, clauses, Solution}
@@ -38,9 +36,8 @@ use Rattle.theory.proofs.Budget.{limited-empty}
 use Rattle.theory.proofs.Demands as demands
 use Rattle.theory.proofs.Paths.{plan-long, trail-long}
 use Rattle.theory.proofs.Forgetting.{search-forgets}
-use Rattle.theory.proofs.Refusing.{most-passes, both-pass, last-passes, NamedBy, table-named, passed-named, first-named, if-named, Refusing, accepted-is, refused-with, accepted-when, unchanged, call-names}
+use Rattle.theory.proofs.Refusing.{most-passes, both-pass, last-passes, NamedBy, table-named, passed-named, first-named, most-named, outcome-names, Refusing, accepted-is, refused-with, accepted-when, unchanged, call-names}
 use Rattle.theory.proofs.Tables.{accepted-exactly}
-use Rattle.theory.proofs.Unknown.{none-named}
 use Rattle.search.specs.Call.{Acceptable, Call, Reports, countOf, Alike}
 
 -- what is accepted -------------------------------------------------------------------------------------------------
@@ -82,8 +79,8 @@ module _ (n : ℕ) (t : List ℤ) (b : ℕ) (plan : List ℕ) (trail : List ℤ)
   -- by what the check of the table names: past it no call is refused with 5
   pub search-names-by : {Where : ℕ → ℕ → Type 0} → NamedBy Where (check n t) → Names Where (searchingReceipt (s .answer))
   search-names-by h = call-names by-checks searchingReceipt (λ w. refl)
-      (first-named _ _ h (first-named _ _ (if-named (ltb (length plan) n) PlanShort (λ e. omega arith)) (first-named _ _ (if-named (ltb (length trail) n) TrailShort (λ e. omega arith)) (passed-named refl))))
-      (none-named _ 0 _ (λ e. numbers.not-refused (unknownVariable 0) _ (outcome-answers (search n t b .outcome)) (sym e)))
+      (first-named _ _ h (λ _. first-named _ _ (most-named n (length plan) PlanShort (λ e. omega arith)) (λ _. first-named _ _ (most-named n (length trail) TrailShort (λ e. omega arith)) (λ _. passed-named refl))))
+      (outcome-names (search n t b .outcome) 0 _)
 
   -- A2: 5 is for the first unknown placement, with its group; "for all other numbers it is 0"
   pub search-names : Names (UnknownInTable n t) (searchingReceipt (s .answer))

@@ -1,15 +1,13 @@
 -- What a call of Settle promises, by its number on the receipt and both lists after it. All of it follows from the equation that `settle` ensures.
-use mathlib.Core.Path.{_≡_, refl, ap, sym, subst, _∙_}
+use mathlib.Core.Path.{_≡_, refl, ap, sym, _∙_}
 use mathlib.Core.Logic.{_⊎_, inl, inr, _↔_, _≢_}
-use mathlib.Core.List.{List}
+use mathlib.Core.List.{List, [], _∷_}
 use Prim.Native.Nat.{ℕ, suc, _<_, _≤_}
 use native.Mathlib.Omega.{arith}
-use borrow.Author.Tests.{ltb-true, ltb-false, lt-ltb, le-ltb}
-use lib.Dec.{ltb}
+use borrow.Author.Tests.{lt-ltb, le-ltb}
 use lib.IntN.{ℤ, pos as posℤ}
 use lib.ListN.{length, getD, take, drop, replicate, length-replicate}
 use lib.Seq.{take-at, drop-at}
-use Rattle.general.specs.Booleans.{cond-ind}
 use Rattle.general.specs.Lists.{upTo, length-from}
 use Rattle.literal.specs.declared.Literal.the-variants.{Pos}
 use Rattle.receipt.specs.Receipt.{refusal, receipt}
@@ -21,11 +19,12 @@ use Rattle.receipt.specs.declared.Refusal.{Refusal}
 use Rattle.receipt.specs.declared.Settling.{Settling}
 use Rattle.receipt.specs.declared.Settling.the-variants as settling
 use Rattle.receipt.proofs.Numbers.{not-refused}
-use Rattle.theory.specs.Calls.{over, stateEntry, settlingOf, stateList, reasonList, SettleCall, settledCall, settleChecked, settleCall}
+use Rattle.theory.specs.Calls.{over, stateEntry, settlingOf, stateList, reasonList, SettleCall, settledCall, settleRefused, settleCall}
 use Rattle.theory.specs.Formula.{Choice, clauses, Solution, Within}
 use Rattle.theory.specs.Propagation.{settle}
 use Rattle.theory.specs.Propagation as plain
 use Rattle.theory.specs.Reasons.{Explained, unexplained, Explanation, dead, rest, propagateBy, explain, forget, SettledBy}
+use Rattle.theory.specs.Refusing.{atMost, firstRefusal, NotRefused}
 use Rattle.theory.specs.SettledList.{stateIn, Remains}
 use Rattle.theory.specs.State.{initial}
 use Rattle.theory.specs.Table.{zeros, Accepted, check, WithinLimits}
@@ -33,16 +32,14 @@ use Rattle.theory.specs.Unknown.{UnknownInTable, Names}
 use Rattle.theory.proofs.Heads.{clauses-zeros}
 use Rattle.theory.proofs.Forgetting.{settle-forgets}
 use Rattle.theory.proofs.Reasons.{initial-accounted, reason-open, reason-named, reason-kept}
+use Rattle.theory.proofs.Refusing.{not-passed, most-passes, both-pass, last-passes, table-named, passed-named, first-named, most-named, Refusing, accepted-is, refused-with, accepted-when, unchanged, call-cases, call-names}
 use Rattle.theory.proofs.SettledList.{entry-open, written-at, list-read, dead-end-none, settled-well, settled-remains}
-use Rattle.theory.proofs.Tables.{accepted-sizes, accepted-exactly, accepted-within}
-use Rattle.theory.proofs.Unknown.{none-named, check-names}
+use Rattle.theory.proofs.Tables.{accepted-exactly, accepted-within}
+use Rattle.theory.proofs.Unknown.{none-named}
 use Rattle.settle.specs.Settle.{called}
 
 abbrev pub numberOf : Settling → ℕ
 numberOf r = settlingReceipt r .number
-
-abbrev pub NotRefused : Settling → Type 0
-NotRefused r = (w : Refusal) → ¬ (r ≡ settling.Refused w)
 
 -- a call of Settle: its answer r, and both lists before and after it
 pub record Call (n : ℕ) (t l : List ℤ) (m : List ℕ) (r : Settling) (l′ : List ℤ) (m′ : List ℕ) : Type 0 where
@@ -72,23 +69,34 @@ By n t l m s = Way n t l m (s .answer) (s .list) (s .reasons)
 forgotten : (n : ℕ) (t : List ℤ) {o : Explanation} → explanationOf n t ≡ o → settle n (clauses t) initial ≡ forget o
 forgotten n t e = sym (settle-forgets n (clauses t) (unexplained initial)) ∙ ap forget e
 
-way : {n : ℕ} {t l : List ℤ} {m : List ℕ} {r : Settling} {l′ : List ℤ} {m′ : List ℕ} → Call n t l m r l′ m′ → Way n t l m r l′ m′
+-- a call by its checks: "Tables: 1, 2, 3, 4, 5, then .. 14 (settle)"; "19, reason list short, after 14"
+abbrev checks : ℕ → List ℤ → List ℤ → List ℕ → Checked
+checks n t l m = firstRefusal (check n t ∷ atMost n (length l) StateShort ∷ atMost n (length m) ReasonsShort ∷ [])
+
+checked : (n : ℕ) (t l : List ℤ) (m : List ℕ) → (checks n t l m ≡ Passed) ↔ Acceptable n t l m
+checked n t l m =
+    let k = both-pass (accepted-exactly n t) (both-pass (most-passes n (length l) StateShort) (last-passes (most-passes n (length m) ReasonsShort))) in (
+      λ e. let h = k .0 e in record { table = h .0; list-room = h .1 .0; reasons-room = h .1 .1 },
+      λ a. k .1 (a .table, (a .list-room, a .reasons-room)),
+    )
+
+-- Settle's own answers refuse nothing
+settling-answers : (o : plain.Settled) → NotRefused settling.Refused (settlingOf o)
+settling-answers plain.dead w e = let z : _≡_ {A = ℕ} 0 1 = cc in omega arith
+settling-answers (plain.rest s) w e = let z : _≡_ {A = ℕ} 0 1 = cc in omega arith
+
+by-checks : {n : ℕ} {t l : List ℤ} {m : List ℕ} {r : Settling} {l′ : List ℤ} {m′ : List ℕ} → Call n t l m r l′ m′ →
+    Refusing settling.Refused (λ (s : SettleCall). s .answer) (λ w. settleRefused w l m) (checks n t l m) (settledCall n (clauses t) l m) (called r l′ m′)
 unfolding settleCall
-way {n} {t} {l} {m} c = subst (By n t l m) (sym (c .is)) (checked (check n t) refl)
+by-checks {n} {t} c = record { is = c .is; turns = λ w. refl; accepts = settling-answers (settle n (clauses t) initial) }
+
+way : {n : ℕ} {t l : List ℤ} {m : List ℕ} {r : Settling} {l′ : List ℤ} {m′ : List ℕ} → Call n t l m r l′ m′ → Way n t l m r l′ m′
+way {n} {t} {l} {m} c =
+    call-cases (by-checks c) (By n t l m) (λ w e. refused w (λ h. not-passed (sym e ∙ checked n t l m .1 h))) (λ e. ended (checked n t l m .0 e) (explanationOf n t) refl)
   where
     ended : Acceptable n t l m → (o : Explanation) → explanationOf n t ≡ o → By n t l m (settledCall n (clauses t) l m)
     ended a dead e = rw (e, forgotten n t e) (dead-end a e)
     ended a (rest u) e = rw (e, forgotten n t e) (settled a u e)
-
-    checked : (k : Checked) → check n t ≡ k → By n t l m (settleChecked k n t l m)
-    checked (Refused w) e = refused w (λ h. let z : _≡_ {A = ℕ} 0 1 = cc (accepted-exactly n t .1 (h .table)) in omega arith)
-    checked Passed e = cond-ind (By n t l m) _ _ (ltb (length l) n)
-        (λ b. refused _ (λ h. omega (arith, h .list-room, ltb-true (length l) n b)))
-        (λ b. cond-ind (By n t l m) _ _ (ltb (length m) n)
-        (λ d. refused _ (λ h. omega (arith, h .reasons-room, ltb-true (length m) n d)))
-        (λ d.
-        ended (record { table = accepted-sizes n t e; list-room = ltb-false (length l) n b; reasons-room = ltb-false (length m) n d })
-        (explanationOf n t) refl))
 
 within-of : {n : ℕ} {t : List ℤ} → WithinLimits n t → Within n (clauses t)
 within-of {n} {t} w = accepted-within n t (accepted-exactly n t .1 w)
@@ -122,63 +130,44 @@ end {n} {t} {l} {m} (settled a u e) q = record {
 
 module _ {n : ℕ} {t l : List ℤ} {m : List ℕ} {r : Settling} {l′ : List ℤ} {m′ : List ℕ} (c : Call n t l m r l′ m′) where
   -- demand 1: "Every table .. within the limits of document 01, with room lent for the results, is accepted"; "Every other input is refused"
-  pub settle-accepts : NotRefused r ↔ Acceptable n t l m
-  settle-accepts = go (way c)
-    where
-      go : {r : Settling} {l′ : List ℤ} {m′ : List ℕ} → Way n t l m r l′ m′ → NotRefused r ↔ Acceptable n t l m
-      go (refused w h) = (λ k. absurd (k w refl), λ k. absurd (h k))
-      go (dead-end a e) = (λ _. a, λ _ x q. let z : _≡_ {A = ℕ} 0 1 = cc in omega arith)
-      go (settled a u e) = (λ _. a, λ _ x q. let z : _≡_ {A = ℕ} 0 1 = cc in omega arith)
+  pub settle-accepts : NotRefused settling.Refused r ↔ Acceptable n t l m
+  settle-accepts = accepted-when (by-checks c) (checked n t l m)
 
   -- 13 settled, 10 no layout; "Place and count are 0 where nothing else is said."
-  pub settle-answers : NotRefused r → (settlingReceipt r ≡ receipt 13 0 0) ⊎ (settlingReceipt r ≡ receipt 10 0 0)
+  pub settle-answers : NotRefused settling.Refused r → (settlingReceipt r ≡ receipt 13 0 0) ⊎ (settlingReceipt r ≡ receipt 10 0 0)
   settle-answers = go (way c)
     where
-      go : {r : Settling} {l′ : List ℤ} {m′ : List ℕ} → Way n t l m r l′ m′ → NotRefused r → (settlingReceipt r ≡ receipt 13 0 0) ⊎ (settlingReceipt r ≡ receipt 10 0 0)
+      go : {r : Settling} {l′ : List ℤ} {m′ : List ℕ} → Way n t l m r l′ m′ → NotRefused settling.Refused r → (settlingReceipt r ≡ receipt 13 0 0) ⊎ (settlingReceipt r ≡ receipt 10 0 0)
       go (refused w h) k = absurd (k w refl)
       go (dead-end a e) k = inr refl
       go (settled a u e) k = inl refl
 
-  -- "Tables: 1, 2, 3, 4, 5, then .. 14 (settle)"
-  pub settle-table-refused : (w : Refusal) → check n t ≡ Refused w → r ≡ settling.Refused w
-  unfolding settleCall
-  settle-table-refused w e = ap (λ (s : SettleCall). s .answer) (c .is) ∙ rw e
-
-  pub settle-state-short : WithinLimits n t → length l < n → r ≡ settling.Refused (refusal StateShort 0)
-  unfolding settleCall
-  settle-state-short w h =
-      let a : Accepted n t = accepted-exactly n t .1 w in
-      ap (λ (s : SettleCall). s .answer) (c .is) ∙ rw (a, lt-ltb (length l) n h)
-
-  -- A5: "Turned away: 19, reason list short, after 14"
-  pub settle-reasons-short : WithinLimits n t → n ≤ length l → length m < n → r ≡ settling.Refused (refusal ReasonsShort 0)
-  unfolding settleCall
-  settle-reasons-short w h k =
-      let a : Accepted n t = accepted-exactly n t .1 w in
-      ap (λ (s : SettleCall). s .answer) (c .is) ∙ rw (a, le-ltb (length l) n h, lt-ltb (length m) n k)
-
   -- demand 1: "a refused call changes no lent element"
   pub settle-refused-unchanged : (w : Refusal) → r ≡ settling.Refused w → (l′ ≡ l) × (m′ ≡ m)
-  settle-refused-unchanged w = go (way c)
-    where
-      go : {r : Settling} {l′ : List ℤ} {m′ : List ℕ} → Way n t l m r l′ m′ → r ≡ settling.Refused w → (l′ ≡ l) × (m′ ≡ m)
-      go (refused x h) q = (refl, refl)
-      go (dead-end a e) q = absurd (let z : _≡_ {A = ℕ} 0 1 = cc in omega arith)
-      go (settled a u e) q = absurd (let z : _≡_ {A = ℕ} 0 1 = cc in omega arith)
+  settle-refused-unchanged w e = let q = unchanged (by-checks c) w e .2 in (ap (λ (s : SettleCall). s .list) q, ap (λ (s : SettleCall). s .reasons) q)
 
   -- A2: 5 is for the first unknown placement, with its group; "for all other numbers it is 0"
   pub settle-names : Names (UnknownInTable n t) (settlingReceipt r)
-  unfolding settleCall
-  settle-names = rw (ap (λ (s : SettleCall). s .answer) (c .is)) (check-names n t (λ k. settlingReceipt (settleChecked k n t l m .answer)) (λ w. refl)
-      (cond-ind NamesAt _ _ (ltb (length l) n) (λ _. none-named 14 0 0 (λ e. omega arith))
-      (λ _. cond-ind NamesAt _ _ (ltb (length m) n) (λ _. none-named 19 0 0 (λ e. omega arith)) (λ _. ended (settle n (clauses t) initial)))))
+  settle-names = call-names (by-checks c) settlingReceipt (λ w. refl)
+      (first-named _ _ (table-named n t) (λ _. first-named _ _ (most-named n (length l) StateShort (λ e. omega arith)) (λ _. first-named _ _ (most-named n (length m) ReasonsShort (λ e. omega arith)) (λ _. passed-named refl))))
+      (ended (settle n (clauses t) initial))
     where
-      NamesAt : SettleCall → Type 0
-      NamesAt s = Names (UnknownInTable n t) (settlingReceipt (s .answer))
-
       ended : (o : plain.Settled) → Names (UnknownInTable n t) (settlingReceipt (settlingOf o))
       ended plain.dead = none-named 10 0 0 (λ e. omega arith)
       ended (plain.rest u) = none-named 13 0 0 (λ e. omega arith)
+
+  -- "Tables: 1, 2, 3, 4, 5, then .. 14 (settle)"
+  pub settle-table-refused : (w : Refusal) → check n t ≡ Refused w → r ≡ settling.Refused w
+  settle-table-refused w e = refused-with (by-checks c) w (rw e)
+
+  pub settle-state-short : WithinLimits n t → length l < n → r ≡ settling.Refused (refusal StateShort 0)
+  settle-state-short w h = let a : Accepted n t = accepted-exactly n t .1 w in refused-with (by-checks c) (refusal StateShort 0) (rw (a, lt-ltb (length l) n h))
+
+  -- A5: "Turned away: 19, reason list short, after 14"
+  pub settle-reasons-short : WithinLimits n t → n ≤ length l → length m < n → r ≡ settling.Refused (refusal ReasonsShort 0)
+  settle-reasons-short w h k =
+      let a : Accepted n t = accepted-exactly n t .1 w in
+      refused-with (by-checks c) (refusal ReasonsShort 0) (rw (a, le-ltb (length l) n h, lt-ltb (length m) n k))
 
   -- "Elements not named are never changed."
   pub settle-rest-kept : (drop n l′ ≡ drop n l) × (drop n m′ ≡ drop n m)
@@ -190,8 +179,8 @@ module _ {n : ℕ} {t l : List ℤ} {m : List ℕ} {r : Settling} {l′ : List �
       go (settled a u e) = (rest-of n (upTo (λ p. stateEntry (u .state p)) n) l (length-from (λ p. stateEntry (u .state p)) 1 n), rest-of n (upTo (u .reasons) n) m (length-from (u .reasons) 1 n))
 
   -- "On a dead end they become 0."; A5: "all 0 on a dead end"
-  pub dead-end-zeros : numberOf r ≡ 10 → (take n l′ ≡ replicate n (posℤ 0)) × (take n m′ ≡ replicate n 0)
-  dead-end-zeros = go (way c)
+  pub settle-dead-end-zeros : numberOf r ≡ 10 → (take n l′ ≡ replicate n (posℤ 0)) × (take n m′ ≡ replicate n 0)
+  settle-dead-end-zeros = go (way c)
     where
       go : {r : Settling} {l′ : List ℤ} {m′ : List ℕ} → Way n t l m r l′ m′ → numberOf r ≡ 10 → (take n l′ ≡ replicate n (posℤ 0)) × (take n m′ ≡ replicate n 0)
       go (refused w h) q = absurd (not-refused (w .fault) 10 refl q)
@@ -199,8 +188,8 @@ module _ {n : ℕ} {t l : List ℤ} {m : List ℕ} {r : Settling} {l′ : List �
       go (settled a u e) q = absurd (omega arith)
 
   -- 10: there is no layout
-  pub dead-end-no-layout : numberOf r ≡ 10 → (f : Choice) → ¬ Solution n (clauses t) f
-  dead-end-no-layout = go (way c)
+  pub settle-dead-end-no-layout : numberOf r ≡ 10 → (f : Choice) → ¬ Solution n (clauses t) f
+  settle-dead-end-no-layout = go (way c)
     where
       go : {r : Settling} {l′ : List ℤ} {m′ : List ℕ} → Way n t l m r l′ m′ → numberOf r ≡ 10 → (f : Choice) → ¬ Solution n (clauses t) f
       go (refused w h) q = absurd (not-refused (w .fault) 10 refl q)
@@ -208,8 +197,8 @@ module _ {n : ℕ} {t l : List ℤ} {m : List ℕ} {r : Settling} {l′ : List �
       go (settled a u e) q = absurd (omega arith)
 
   -- 13: a choice is a layout exactly when it agrees with the list and meets the groups as they stand by it: "Simplifying never gains or loses a choice."
-  pub settled-exactly : numberOf r ≡ 13 → (f : Choice) → Solution n (clauses t) f ↔ Remains n (clauses t) (stateIn n l′) f
-  settled-exactly = go (way c)
+  pub settle-settled-exactly : numberOf r ≡ 13 → (f : Choice) → Solution n (clauses t) f ↔ Remains n (clauses t) (stateIn n l′) f
+  settle-settled-exactly = go (way c)
     where
       go : {r : Settling} {l′ : List ℤ} {m′ : List ℕ} → Way n t l m r l′ m′ → numberOf r ≡ 13 → (f : Choice) → Solution n (clauses t) f ↔ Remains n (clauses t) (stateIn n l′) f
       go (refused w h) q = absurd (not-refused (w .fault) 13 refl q)
@@ -220,19 +209,15 @@ module _ {n : ℕ} {t l : List ℤ} {m : List ℕ} {r : Settling} {l′ : List �
 
   -- A5, which rule settled it ---------------------------------------------------------------------------------------
 
-  settles : NotRefused r → called r l′ m′ ≡ settledCall n (clauses t) l m
-  unfolding settleCall
-  settles k =
-      let a = settle-accepts .0 k in
-      let e : Accepted n t = accepted-exactly n t .1 (a .table) in
-      c .is ∙ rw (e, le-ltb (length l) n (a .list-room), le-ltb (length m) n (a .reasons-room))
+  settles : NotRefused settling.Refused r → called r l′ m′ ≡ settledCall n (clauses t) l m
+  settles k = accepted-is (by-checks c) (checked n t l m .1 (settle-accepts .0 k))
 
   -- without the reasons it is settling as it was: the same number, and the same list
-  pub settle-as-before : NotRefused r → (r ≡ settlingOf (settle n (clauses t) initial)) × (l′ ≡ over n (stateList n (settle n (clauses t) initial)) l)
+  pub settle-as-before : NotRefused settling.Refused r → (r ≡ settlingOf (settle n (clauses t) initial)) × (l′ ≡ over n (stateList n (settle n (clauses t) initial)) l)
   settle-as-before k = (ap (λ (s : SettleCall). s .answer) (settles k), ap (λ (s : SettleCall). s .list) (settles k))
 
   -- what the reasons are: those of settling's own steps
-  pub settle-reasons : NotRefused r → m′ ≡ over n (reasonList n (explanationOf n t)) m
+  pub settle-reasons : NotRefused settling.Refused r → m′ ≡ over n (reasonList n (explanationOf n t)) m
   settle-reasons k = ap (λ (s : SettleCall). s .reasons) (settles k)
 
   module _ (done : numberOf r ≡ 13) where

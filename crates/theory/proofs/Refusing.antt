@@ -13,12 +13,13 @@ use Rattle.receipt.specs.declared.Refusal.{Refusal}
 use Rattle.receipt.specs.declared.Receipt.{Receipt}
 use Rattle.receipt.specs.declared.Checked.{Checked}
 use Rattle.receipt.specs.declared.Checked.the-variants.{Passed, Refused}
-use Rattle.receipt.specs.Receipt.{numberOf, namedClause, refusal, refusedReceipt}
-use Rattle.receipt.proofs.Numbers.{answers, not-refused}
+use Rattle.receipt.specs.declared.Outcome.{Outcome}
+use Rattle.receipt.specs.Receipt.{numberOf, namedClause, outcomeNumber, unknownVariable, refusal, receipt, refusedReceipt}
+use Rattle.receipt.proofs.Numbers.{answers, not-refused, outcome-answers}
 use Rattle.theory.specs.Refusing.{refusedIf, atMost, firstOf, firstRefusal, unless, NotRefused}
 use Rattle.theory.specs.Table.{check}
 use Rattle.theory.specs.Unknown.{UnknownInTable, Names}
-use Rattle.theory.proofs.Unknown.{refusal-names, check-unknown}
+use Rattle.theory.proofs.Unknown.{none-named, refusal-names, check-unknown}
 
 -- one check -----------------------------------------------------------------------------------------------------------
 
@@ -101,13 +102,20 @@ table-named n t = record { named = check-unknown n t }
 pub passed-named : {Where : ℕ → ℕ → Type 0} {c : Checked} → c ≡ Passed → NamedBy Where c
 passed-named p = record { named = λ w e. absurd (not-passed (sym e ∙ p)) }
 
-pub first-named : {Where : ℕ → ℕ → Type 0} (c d : Checked) → NamedBy Where c → NamedBy Where d → NamedBy Where (firstOf c d)
+pub first-named : {Where : ℕ → ℕ → Type 0} (c d : Checked) → NamedBy Where c → (c ≡ Passed → NamedBy Where d) → NamedBy Where (firstOf c d)
 first-named (Refused r) d h k = h
-first-named Passed d h k = k
+first-named Passed d h k = k refl
 
 pub if-named : {Where : ℕ → ℕ → Type 0} (test : Bool) (why : Fault) → numberOf why ≢ 5 → NamedBy Where (refusedIf test why)
 if-named true why h = record { named = λ w e q. let z : refusal why 0 ≡ w = cc in absurd (h (ap (λ (x : Refusal). numberOf (x .fault)) z ∙ q)) }
 if-named false why h = passed-named refl
+
+pub most-named : {Where : ℕ → ℕ → Type 0} (k m : ℕ) (why : Fault) → numberOf why ≢ 5 → NamedBy Where (atMost k m why)
+most-named k m why h = if-named (ltb m k) why h
+
+-- no outcome is 5
+pub outcome-names : {Where : ℕ → ℕ → Type 0} (o : Outcome) (p k : ℕ) → Names Where (receipt (outcomeNumber o) p k)
+outcome-names o p k = none-named (outcomeNumber o) p k (λ e. not-refused (unknownVariable 0) (outcomeNumber o) (outcome-answers o) (sym e))
 
 -- a call ---------------------------------------------------------------------------------------------------------------
 
@@ -153,11 +161,15 @@ module _ {A C : Type 0} {refuse : Refusal → A} {answer : C → A} {turned : Re
       go Passed q = absurd (s .accepts w (sym (ap answer (accepted-is s q)) ∙ e))
       go (Refused v) q = (v, q, refused-is s v q)
 
+  -- what holds of a call that is refused, and of one that isn't
+  pub call-cases : {k : Checked} → Refusing refuse answer turned k accepted c → (P : C → Type 0) → ((w : Refusal) → k ≡ Refused w → P (turned w)) → (k ≡ Passed → P accepted) → P c
+  call-cases {k} s P h j = go k refl
+    where
+      go : (x : Checked) → k ≡ x → P c
+      go Passed q = rw (accepted-is s q) (j q)
+      go (Refused v) q = rw (refused-is s v q) (h v q)
+
   -- A2: 5 is named by the checks; "for all other numbers it is 0"
   pub call-names : {k : Checked} {Where : ℕ → ℕ → Type 0} → Refusing refuse answer turned k accepted c →
       (receiptOf : A → Receipt) → ((w : Refusal) → receiptOf (refuse w) ≡ refusedReceipt w) → NamedBy Where k → Names Where (receiptOf (answer accepted)) → Names Where (receiptOf (answer c))
-  call-names {k} {Where} s receiptOf receipts named h = go k refl
-    where
-      go : (x : Checked) → k ≡ x → Names Where (receiptOf (answer c))
-      go Passed q = rw (accepted-is s q) h
-      go (Refused v) q = rw (refused-with s v q, receipts v) (refusal-names v (named .named v q))
+  call-names {k} {Where} s receiptOf receipts named h = call-cases s (λ x. Names Where (receiptOf (answer x))) (λ v q. rw (s .turns v, receipts v) (refusal-names v (named .named v q))) (λ _. h)

@@ -191,14 +191,8 @@ addedCall u g b = record { answer = adding.Added (u + length g + 1); buffer = ad
 unfoldable pub checkGroup : ℕ → ℕ → List ℤ → List ℤ → Checked
 checkGroup u n g b =
     let t = take u b in
-    firstRefusal (
-      atMost u (length b) UsedLengthWrong ∷
-      check n t ∷
-      atMost (zeros t + 1) maxClauses TooManyClauses ∷
-      atMost (nonzeros t + length g) maxLiterals TooManyLiterals ∷
-      unknownIn u (zeros t + 1) n g ∷
-      []
-    )
+    firstRefusal (atMost u (length b) UsedLengthWrong ∷ check n t ∷ atMost (zeros t + 1) maxClauses TooManyClauses ∷ atMost (nonzeros t + length g) maxLiterals TooManyLiterals ∷
+    unknownIn u (zeros t + 1) n g ∷ [])
 
 -- and then 23, where the table has room for so many elements
 abbrev pub checkAdded : ℕ → ℕ → List ℤ → List ℤ → ℕ → Checked

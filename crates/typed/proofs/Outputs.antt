@@ -1,6 +1,6 @@
 -- What a text gets, case by case, and how it stands at the front of the bytes lent.
 use mathlib.Core.Path.{_≡_, refl}
-use mathlib.Core.List.{List}
+use mathlib.Core.List.{List, [], _∷_}
 use Prim.Native.Nat.{ℕ, _<_, _≤_}
 use native.Mathlib.Omega.{arith}
 use borrow.Author.Tests.{lt-ltb, le-ltb}
@@ -9,10 +9,12 @@ use lib.ListN.{length, drop, length-append}
 use Rattle.general.specs.Appending.{Appended, appended-length}
 use Rattle.receipt.specs.declared.Checked.{Checked}
 use Rattle.receipt.specs.declared.Checked.the-variants as checked
+use Rattle.receipt.specs.declared.Fault.the-variants.{StripShort}
 use Rattle.receipt.specs.declared.Saving.{Saving}
 use Rattle.receipt.specs.declared.Saving.the-variants.{Saved, Refused}
 use Rattle.theory.specs.Encoding.{savedStrip, maxSaved}
-use Rattle.theory.specs.Calls.{saveCheck, saveChecked, saveCall}
+use Rattle.theory.specs.Refusing.{atMost, firstRefusal, unless}
+use Rattle.theory.specs.Calls.{SaveCall, saveRefused, savedCall, saveCheck, saveCall}
 use Rattle.theory.proofs.Encodings.{saved-most}
 use Rattle.save.specs.Save.{called as saveCalled}
 use Rattle.save.proofs.Calling.{save-passed}
@@ -43,11 +45,15 @@ Writes l o (Refused f) l′ = (message (refusedText f) ≡ o) × (l′ ≡ l)
 
 -- a call with bytes for the longest strip
 module _ (n : ℕ) (t : List ℤ) (l : List ℕ) (long : maxSaved ≤ length l) where
+  -- by what the table's check says
+  abbrev savedBy : Checked → SaveCall
+  savedBy c = unless (firstRefusal (c ∷ atMost (length (savedStrip n t)) (length l) StripShort ∷ [])) (λ r. saveRefused r l) (savedCall (savedStrip n t) l)
+
   save-writes : Writes l (tableOutput (saveCheck n t) n t) (saveCall n t l .answer) (saveCall n t l .strip)
   unfolding saveCall
   save-writes = go (saveCheck n t) refl
     where
-      go : (c : Checked) → saveCheck n t ≡ c → Writes l (tableOutput c n t) (saveChecked c n t l .answer) (saveChecked c n t l .strip)
+      go : (c : Checked) → saveCheck n t ≡ c → Writes l (tableOutput c n t) (savedBy c .answer) (savedBy c .strip)
       go (checked.Refused f) e = (refl, refl)
       go checked.Passed e =
           let b = savedStrip n t in

@@ -4,22 +4,20 @@ use mathlib.Core.Path.{_≡_, sym, ap, _∙_}
 use borrow.Author.Needs.{needs}
 use native.Mathlib.Omega.{arith}
 use lib.ListN.{length}
-use Rattle.receipt.specs.declared.Adding.the-variants.{Added}
 use Rattle.receipt.specs.declared.Checked.{Checked}
-use Rattle.theory.specs.Calls.{added, addCall}
+use Rattle.theory.specs.Refusing.{unless}
+use Rattle.theory.specs.Calls.{addRefused, addedCall, addCall}
 use Rattle.add.specs.Add.{called}
-use Rattle.add.proofs.Refusals.{unlessRefused, call-added, added-fits}
+use Rattle.add.proofs.Refusals.{added-fits}
 use Rattle.add.proofs.add.Statement.{statement}
 use Rattle.add.proofs.add.Tie as tie
 
 -- the call, by the answer of the checks
 checked : (c : tie.After-check-added) (r : Checked) → c .check-added .result ≡ r →
     let a = c .before .before .args in
-    addCall (a .used) (a .n) (a .group .now) (a .buffer .now) ≡
-    unlessRefused (a .buffer .now) r (called (Added (a .used + length (a .group .now) + 1)) (added (a .used) (a .group .now) (a .buffer .now)))
-checked c r e =
-    let a = c .before .before .args in
-    call-added (a .buffer .now) (a .used) (a .n) (a .group .now) ∙ rw (← c .check-added .ensures, e)
+    addCall (a .used) (a .n) (a .group .now) (a .buffer .now) ≡ unless r (λ w. addRefused w (a .buffer .now)) (addedCall (a .used) (a .group .now) (a .buffer .now))
+unfolding addCall
+checked c r e = rw (← c .check-added .ensures, e)
 
 room : (c : tie.After-enum-told) →
     let a = c .before .before .before .before .args in a .used + length (a .group .now) < length (a .buffer .now)

@@ -4,6 +4,7 @@ use mathlib.Core.Path.{sym, _∙_}
 use borrow.Author.Needs.{needs}
 use native.Mathlib.Omega.{arith}
 use lib.ListN.{length}
+use Rattle.theory.proofs.Refusing.{first-last}
 use Rattle.add.proofs.Refusals.{checked-exactly}
 use Rattle.add.proofs.check_added.Statement.{statement}
 use Rattle.add.proofs.check_added.Tie as tie
@@ -23,7 +24,7 @@ returns : tie.Need-returns
 returns c = rw (← c .before .before .check-group .ensures, c .enum-told .given .1)
 
 returns-2 : tie.Need-returns-2
-returns-2 c = c .at-most .ensures ∙ rw (← c .before .before .before .check-group .ensures, c .before .enum-told2 .given .1)
+returns-2 c = c .at-most .ensures ∙ rw (← c .before .before .before .check-group .ensures, c .before .enum-told2 .given .1) (sym (first-last _))
 
 pub check-added-spec : {M : Type 1} → statement M
 check-added-spec =

@@ -7,7 +7,7 @@ use lib.Seq.{length-take-le}
 use Rattle.theory.specs.Table.{check}
 use Rattle.table.specs.Pass.{begin, after, verdict}
 use Rattle.table.proofs.Passes.{verdict-check}
-use Rattle.add.specs.Add.{checkGroup}
+use Rattle.theory.specs.Calls.{checkGroup}
 use Rattle.add.proofs.Refusals.{counts-exact}
 use Rattle.add.proofs.check_group.Statement.{statement}
 use Rattle.add.proofs.check_group.Tie as tie
