@@ -52,7 +52,7 @@ pub record Stored (u n : ℕ) (g b b′ : List ℤ) (v : ℕ) : Type 0 where
 
 module _ {u n : ℕ} {g b : List ℤ} {r : Adding} {b′ : List ℤ} (c : Call u n g b r b′) where
   -- a call by its checks: "Add: 12, then 1 to 5 on the used part, 2 and 3 with the group added .., 5 on the list .., 23"
-  by-checks : Refusing adding.Refused (λ (s : AddCall). s .answer) (λ w. addRefused w b) (checkAdded u n g b (length b)) (addedCall u g b) (called r b′)
+  pub by-checks : Refusing adding.Refused (λ (s : AddCall). s .answer) (λ w. addRefused w b) (checkAdded u n g b (length b)) (addedCall u g b) (called r b′)
   unfolding addCall
   by-checks = record { is = c .is; turns = λ w. refl; accepts = λ w e. let z : _≡_ {A = ℕ} 0 1 = cc in omega arith }
 

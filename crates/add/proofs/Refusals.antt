@@ -125,10 +125,10 @@ module _ (u n : ℕ) (g b : List ℤ) where
   unfolding checkGroup
   checked-exactly =
       let k = both-pass (most-passes u (length b) UsedLengthWrong)
-          (both-pass (accepted-exactly n t)
-          (both-pass (most-passes (zeros t + 1) maxClauses TooManyClauses)
-          (both-pass (most-passes (nonzeros t + length g) maxLiterals TooManyLiterals)
-          (last-passes (list-passes u (zeros t + 1) n g))))) in (
+      (both-pass (accepted-exactly n t)
+      (both-pass (most-passes (zeros t + 1) maxClauses TooManyClauses)
+      (both-pass (most-passes (nonzeros t + length g) maxLiterals TooManyLiterals)
+      (last-passes (list-passes u (zeros t + 1) n g))))) in (
         λ e. let x = k .0 e in let y = x .1 in let z = y .1 in (x .0, record { within = y .0; clauses = z .0; literals = z .1 .0; known = z .1 .1 }),
         λ (h, a). k .1 (h, (a .within, (a .clauses, (a .literals, a .known)))),
       )
@@ -171,10 +171,6 @@ pub group-fits : (u n : ℕ) (g b : List ℤ) → checkGroup u n g b ≡ Passed 
 group-fits u n g b e =
     let a = checked-exactly u n g b .0 e in
     omega (arith, length-take-le u b (a .0), length-elements (take u b), a .1 .clauses, a .1 .literals)
-
--- where there is room the checks are those without it
-pub room-asked : (u n : ℕ) (g b : List ℤ) (room : ℕ) → u + length g + 1 ≤ room → checkAdded u n g b room ≡ checkGroup u n g b
-room-asked u n g b room h = rw (most-passes (u + length g + 1) room TableShort .1 h) (first-last (checkGroup u n g b))
 
 pub room-enough : (u n : ℕ) (g b : List ℤ) → checkAdded u n g b maxTable ≡ checkGroup u n g b
 room-enough u n g b = go (checkGroup u n g b) refl

@@ -14,26 +14,26 @@ use Rattle.receipt.specs.declared.Refusal.{Refusal}
 use Rattle.receipt.specs.declared.Settling.the-variants as settling
 use Rattle.literal.specs.Literal.{maxTable}
 use Rattle.settle.specs.Settle.{called}
-use Rattle.theory.specs.Calls.{SettleCall, settleRefused, settleCall, added, addCall, withRoom, settleAfter, previewCall}
+use Rattle.theory.specs.Refusing.{unless}
+use Rattle.theory.specs.Calls.{SettleCall, settleRefused, settleCall, added, checkGroup, checkAdded, addCall, withRoom, settleAfter, previewCall}
 use Rattle.theory.specs.Table.{Accepted}
 use Rattle.theory.proofs.Tables.{accepted-exactly}
-use Rattle.add.specs.Add.{checkGroup, checkAdded}
 use Rattle.add.specs.Addable.{Follows}
 use Rattle.add.proofs.Growing.{withZero, grown-limits, added-table}
-use Rattle.add.proofs.Refusals.{call-checked, checked-exactly, checked-alike, group-fits, room-enough}
+use Rattle.add.proofs.Refusals.{checked-exactly, checked-alike, group-fits, room-enough}
 
 module _ (u n : ℕ) (g b l : List ℤ) (m : List ℕ) where
   -- unless the checks refuse, Settle of the used part with the list and its 0
   abbrev pub previewed : Checked → SettleCall
-  previewed (Refused r) = settleRefused r l m
-  previewed Passed = settleCall n (take u b ++ withZero g) l m
+  previewed k = unless k (λ r. settleRefused r l m) (settleCall n (take u b ++ withZero g) l m)
 
   -- Settle after Add on any copy with the same used part and room for the list
   module _ (h : u ≤ length b) (c : List ℤ) (alike : take u c ≡ take u b) (room : u + length g + 1 ≤ length c) where
     by-checks : (k : Checked) → checkGroup u n g b ≡ k → settleAfter (addCall u n g c .answer) n (addCall u n g c .buffer) l m ≡ previewed k
-    by-checks (Refused r) e = rw (call-checked c u n g, checked-alike u n g c b (omega arith) h alike, e)
+    unfolding addCall
+    by-checks (Refused r) e = rw (checked-alike u n g c b (omega arith) h alike, e)
     by-checks Passed e =
-        rw (call-checked c u n g, checked-alike u n g c b (omega arith) h alike, e, le-ltb (length c) (u + length g + 1) room)
+        rw (checked-alike u n g c b (omega arith) h alike, e, le-ltb (length c) (u + length g + 1) room)
         (ap (λ t. settleCall n t l m) (added-table u g c room ∙ ap (λ t. t ++ withZero g) alike))
 
     pub copy-settled : settleAfter (addCall u n g c .answer) n (addCall u n g c .buffer) l m ≡ previewed (checkGroup u n g b)

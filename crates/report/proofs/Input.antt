@@ -18,8 +18,8 @@ too-long : (s : List ℕ) → maxStrip < length s → reportOf s ≡ refusedText
 unfolding reportOf solveCall solveVariables readBy
 too-long s h = rw (lt-ltb maxStrip (length s) h)
 
-pub one-past : (s : List ℕ) → reportOf (take (suc maxStrip) s) ≡ reportOf s
-one-past s = elim (decLe (length s) (suc maxStrip)) [
+pub report-one-past : (s : List ℕ) → reportOf (take (suc maxStrip) s) ≡ reportOf s
+report-one-past s = elim (decLe (length s) (suc maxStrip)) [
   | yes h ↦ ap reportOf (take-all (suc maxStrip) s h)
   | no h ↦ too-long (take (suc maxStrip) s) (omega (arith, length-take (suc maxStrip) s)) ∙ sym (too-long s (omega arith))
 ]

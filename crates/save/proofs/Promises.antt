@@ -20,7 +20,7 @@ use Rattle.receipt.specs.declared.Reading.{Reading}
 use Rattle.receipt.specs.declared.Reading.the-variants.{Read}
 use Rattle.receipt.specs.declared.Refusal.{Refusal}
 use Rattle.receipt.specs.declared.Saving.{Saving}
-use Rattle.receipt.specs.declared.Saving.the-variants.{Saved, Refused}
+use Rattle.receipt.specs.declared.Saving.the-variants.{Refused}
 use Rattle.theory.specs.Calls.{over, SaveCall, saveRefused, savedCall, saveCheck, saveCall, readCall}
 use Rattle.theory.specs.Encoding.{savedStrip, savedLength, Unchaptered, Bytes}
 use Rattle.theory.specs.Mentions.{mentionsAll, Mentioned}
@@ -57,8 +57,8 @@ module _ {n : ℕ} {t : List ℤ} {s : List ℕ} {r : Saving} {s′ : List ℕ} 
   unfolding saveCall
   by-checks = record { is = c .is; turns = λ w. refl; accepts = λ w e. let z : _≡_ {A = ℕ} 0 1 = cc in omega arith }
 
-  checked : (checks ≡ checked.Passed) ↔ Savable n t s
-  checked = (
+  passes : (checks ≡ checked.Passed) ↔ Savable n t s
+  passes = (
     λ e.
         let x = first-passed (saveCheck n t) _ .0 e in
         let p = save-passed n t (x .0) in
@@ -70,10 +70,10 @@ module _ {n : ℕ} {t : List ℤ} {s : List ℕ} {r : Saving} {s′ : List ℕ} 
 
   -- demand 1, of Save: a table within the limits that names every placement, with room lent, is accepted
   pub save-accepts : NotRefused Refused r ↔ Savable n t s
-  save-accepts = accepted-when by-checks checked
+  save-accepts = accepted-when by-checks passes
 
   saved : Savable n t s → called r s′ ≡ savedCall (savedStrip n t) s
-  saved h = accepted-is by-checks (checked .1 h)
+  saved h = accepted-is by-checks (passes .1 h)
 
   -- "Success is 18, done"; "place is its length"
   pub save-answers : NotRefused Refused r → savingReceipt r ≡ receipt done (savedLength (zeros t) (nonzeros t)) 0
@@ -140,8 +140,8 @@ module _ {n : ℕ} {t : List ℤ} {s : List ℕ} {r : Saving} {s′ : List ℕ} 
           let e = rw d at reads in (ap (λ k. k .answer) e, ap (λ k. k .table) e)
 
       -- it is never too long to be read, whatever room the table has
-      pub saved-never-too-long : readingReceipt r₂ .number ≢ numberOf StripTooLong
-      saved-never-too-long e =
+      pub save-never-too-long : readingReceipt r₂ .number ≢ numberOf StripTooLong
+      save-never-too-long e =
           let long = read-too-long (take (savingReceipt r .place) s′) t₀ r₂ t₂ reads .0 e in
           omega (arith, rw save-writes at long, saved-short n t (written .0))
 
@@ -158,10 +158,10 @@ module _ (s : List ℕ) (t₀ : List ℤ) (r₂ : Reading) (t₂ : List ℤ) (re
   used : take u t₂ ≡ decoded .table
   used = read-used s t₀ r₂ t₂ reads n u read
 
-  pub read-then-save : Bytes s → Unchaptered s → (s₀ : List ℕ) (r : Saving) (s₁ : List ℕ) → Call n (take u t₂) s₀ r s₁ → length s ≤ length s₀ →
+  pub save-after-read : Bytes s → Unchaptered s → (s₀ : List ℕ) (r : Saving) (s₁ : List ℕ) → Call n (take u t₂) s₀ r s₁ → length s ≤ length s₀ →
       (savingReceipt r ≡ receipt done (length s) 0) × (s₁ ≡ over (length s) s s₀)
   unfolding saveCall saveCheck
-  read-then-save b plain s₀ r s₁ c fits =
+  save-after-read b plain s₀ r s₁ c fits =
       let passed : Accepted n (take u t₂) = rw used (read-accepted s (length t₀) n u answer) in
       let mentioned : Mentioned n (take u t₂) = rw used (read-mentioned s (length t₀) n u answer) in
       let same : savedStrip n (take u t₂) ≡ s = rw used (read-saves s b plain (length t₀) n u answer) in

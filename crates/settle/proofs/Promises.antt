@@ -81,9 +81,13 @@ checked n t l m =
     )
 
 -- Settle's own answers refuse nothing
-settling-answers : (o : plain.Settled) → NotRefused settling.Refused (settlingOf o)
+pub settling-answers : (o : plain.Settled) → NotRefused settling.Refused (settlingOf o)
 settling-answers plain.dead w e = let z : _≡_ {A = ℕ} 0 1 = cc in omega arith
 settling-answers (plain.rest s) w e = let z : _≡_ {A = ℕ} 0 1 = cc in omega arith
+
+pub settling-names : {Where : ℕ → ℕ → Type 0} (o : plain.Settled) → Names Where (settlingReceipt (settlingOf o))
+settling-names plain.dead = none-named 10 0 0 (λ e. omega arith)
+settling-names (plain.rest u) = none-named 13 0 0 (λ e. omega arith)
 
 by-checks : {n : ℕ} {t l : List ℤ} {m : List ℕ} {r : Settling} {l′ : List ℤ} {m′ : List ℕ} → Call n t l m r l′ m′ →
     Refusing settling.Refused (λ (s : SettleCall). s .answer) (λ w. settleRefused w l m) (checks n t l m) (settledCall n (clauses t) l m) (called r l′ m′)
@@ -150,11 +154,7 @@ module _ {n : ℕ} {t l : List ℤ} {m : List ℕ} {r : Settling} {l′ : List �
   pub settle-names : Names (UnknownInTable n t) (settlingReceipt r)
   settle-names = call-names (by-checks c) settlingReceipt (λ w. refl)
       (first-named _ _ (table-named n t) (λ _. first-named _ _ (most-named n (length l) StateShort (λ e. omega arith)) (λ _. first-named _ _ (most-named n (length m) ReasonsShort (λ e. omega arith)) (λ _. passed-named refl))))
-      (ended (settle n (clauses t) initial))
-    where
-      ended : (o : plain.Settled) → Names (UnknownInTable n t) (settlingReceipt (settlingOf o))
-      ended plain.dead = none-named 10 0 0 (λ e. omega arith)
-      ended (plain.rest u) = none-named 13 0 0 (λ e. omega arith)
+      (settling-names (settle n (clauses t) initial))
 
   -- "Tables: 1, 2, 3, 4, 5, then .. 14 (settle)"
   pub settle-table-refused : (w : Refusal) → check n t ≡ Refused w → r ≡ settling.Refused w

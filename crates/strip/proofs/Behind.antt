@@ -30,7 +30,8 @@ use Rattle.theory.specs.Encoding.{Item, chapter, group, commandBytes, entryByte
 use Rattle.theory.specs.Unknown.{UnknownInStrip}
 use Rattle.theory.proofs.Encodings.{groups-append, tables-append, entries-append, last-encloses}
 use Rattle.theory.proofs.Tables.{known-variable, InRange, ClauseInRange, empty-in-range, literal-last, clause-last, range-within}
-use Rattle.strip.proofs.Sound.{pending, Sound, with, ahead}
+use Rattle.strip.specs.Faults.{with}
+use Rattle.strip.proofs.Sound.{pending, Sound, ahead}
 
 -- the items of the whole strip: k and the literals d of the open group were read, the literals c and the items l are ahead
 abbrev whole : Turn → List Item → Clause → Clause → List Item → List Item

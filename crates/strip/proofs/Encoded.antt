@@ -1,17 +1,17 @@
 -- A strip of the grammar, within document 01's limits and with room for its table, is read as that table where it names every placement, and otherwise refused at its end mark.
 use mathlib.Core.Path.{_≡_, refl, ap, sym, subst, _∙_}
 use mathlib.Core.Bool.{Bool, true, false, cond}
-use mathlib.Core.List.{List, [], _∷_, _++_, append-assoc, append-nil, List·Memᴰ·head, List·Memᴰ·tail, List·Memᴰ·cases-cons}
+use mathlib.Core.List.{List, [], _∷_, _++_, map, append-assoc, append-nil, List·Memᴰ·head, List·Memᴰ·tail, List·Memᴰ·cases-cons}
 use mathlib.Core.Logic.{⊎-elim}
 use Prim.Native.Nat.{ℕ, zero, suc, _+_, _-_, _<_, _≤_}
 use native.Mathlib.Omega.{arith}
 use borrow.Author.Tests.{lt-ltb, le-ltb, ne-eqb}
-use lib.IntN.{ℤ}
-use lib.ListN.{length, drop, length-append, length-drop}
+use lib.IntN.{ℤ, pos}
+use lib.ListN.{length, drop, length-map, length-append, length-drop}
 use Rattle.general.specs.Booleans.{true-not-false}
 use Rattle.literal.specs.declared.Literal.{Literal}
 use Rattle.literal.specs.declared.Literal.the-variants.{Pos, Neg}
-use Rattle.literal.specs.Literal.{var, entryOf, maxVariables, maxClauses, maxLiterals}
+use Rattle.literal.specs.Literal.{var, entryOf, maxVariables, maxClauses, maxLiterals, maxTable}
 use Rattle.receipt.specs.declared.Fault.the-variants.{UnmentionedVariable}
 use Rattle.receipt.specs.declared.Reading.the-variants.{Read}
 use Rattle.receipt.specs.Receipt.{refusal}
@@ -30,7 +30,8 @@ use Rattle.theory.specs.Strip.{turnOf, same, operandBytes, operandAt, commandAt
 use Rattle.theory.specs.Encoding.{Item, chapter, group, commandBytes, entryBytes, itemBytes, groups, tableOf, entries, StripLimits, StripWithin, Bytes}
 use Rattle.theory.proofs.Tables.{InRange}
 use Rattle.reader.proofs.Commands.{bytes-long, bytes-rest, bytes-command, word-at}
-use Rattle.strip.proofs.Sound.{with, Allows, Left}
+use Rattle.strip.specs.Faults.{with}
+use Rattle.strip.proofs.Sound.{Allows, Left}
 
 rest-range : (n : ℕ) (l : Literal) (c : Clause) (f : Formula) → InRange n ((l ∷ c) ∷ f) → InRange n (c ∷ f)
 rest-range n l c f h d k md mk = ⊎-elim
@@ -192,3 +193,12 @@ module _ (s : List ℕ) (b : Bytes s) (room n : ℕ) (l : List Item) where
   -- and one that is within the limits
   pub within-reads : StripWithin s n l → length (tableOf (groups l)) ≤ room → readStrip s room ≡ record { reading = Read n (length (tableOf (groups l))); table = tableOf (groups l) }
   within-reads w fits = limits-read (w .limits) fits ∙ rw (w .mentioned)
+
+-- there is room for the table of every strip within the limits
+table-length : (f : Formula) → length (tableOf f) ≡ length f + entries f
+unfolding tableOf entries
+table-length [] = refl
+table-length (c ∷ f) = omega (arith, table-length f, length-append (map entryOf c) (pos 0 ∷ tableOf f), length-map c entryOf)
+
+pub within-read : {s : List ℕ} {n : ℕ} {l : List Item} → Bytes s → StripWithin s n l → readStrip s maxTable ≡ record { reading = Read n (length (tableOf (groups l))); table = tableOf (groups l) }
+within-read {s} {n} {l} b w = let k = w .limits in within-reads s b maxTable n l w (omega (arith, table-length (groups l), k .clauses, k .literals))

@@ -33,7 +33,8 @@ use Rattle.theory.specs.Mentions.{mentionsAll, Mentioned}
 use Rattle.theory.specs.Strip.{turnOf, same, nothingRead, obey, Decoding, storing, onward, follow, finish, readFrom, commandAt, maxStrip, readBy, readStrip}
 use Rattle.theory.specs.Encoding.{tableOf, entries}
 use Rattle.reader.proofs.Commands.{same-turn, Says, command-says, command-bytes}
-use Rattle.strip.proofs.Sound.{Sound, begun-sound, elements, with, MayEnd, Left, Keeps, obey-keeps}
+use Rattle.strip.specs.Faults.{with}
+use Rattle.strip.proofs.Sound.{Sound, begun-sound, elements, MayEnd, Left, Keeps, obey-keeps}
 
 module _ (s : List ℕ) (room : ℕ) where
   -- from index i on, with t read before

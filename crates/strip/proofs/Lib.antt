@@ -9,4 +9,5 @@ pub mod Accepted
 pub mod Related
 pub mod Before
 pub mod Unmentioned
+pub mod Faults
 pub mod Promises

@@ -12,10 +12,11 @@ use Rattle.receipt.specs.declared.Fault.the-variants.{StripTooLong, Unmentioned
 use Rattle.receipt.specs.declared.Refusal.{Refusal}
 use Rattle.receipt.specs.declared.Reading.{Reading}
 use Rattle.receipt.specs.declared.Reading.the-variants.{Read, Refused}
-use Rattle.receipt.specs.Receipt.{numberOf, refusal}
-use Rattle.receipt.specs.Answers.{readingReceipt, readLength}
+use Rattle.receipt.specs.Receipt.{numberOf, refusal, receipt}
+use Rattle.receipt.specs.Answers.{readingReceipt, readVariables, readLength}
 use Rattle.theory.specs.Formula.{clauses}
 use Rattle.theory.specs.Mentions.{Mentioned, AllStand}
+use Rattle.theory.specs.Refusing.{NotRefused}
 use Rattle.theory.specs.Strip.{nothingRead, Decoding, maxStrip, readBy, readStrip, readFreely}
 use Rattle.theory.specs.Encoding.{Item, groups, tableOf, StripWithin, UnmentionedInStrip, Bytes}
 use Rattle.theory.specs.Unknown.{UnknownInStrip, Names}
@@ -23,9 +24,11 @@ use Rattle.theory.specs.Calls.{over, ReadCall, readAs, readCall}
 use Rattle.theory.proofs.Mentions.{mentioned-exactly}
 use Rattle.theory.proofs.Tables.{range-within}
 use Rattle.strip.specs.Decoding.{called}
+use Rattle.strip.specs.Faults.{RefusedStrip}
 use Rattle.strip.proofs.Accepted.{read-accepted}
 use Rattle.strip.proofs.Before.{readings-as-before}
 use Rattle.strip.proofs.Ends.{Ended, answered, read-mentioned, too-long, sized}
+use Rattle.strip.proofs.Faults.{refused-exactly}
 use Rattle.strip.proofs.Receipts.{strip-names}
 use Rattle.strip.proofs.Unmentioned.{unmentioned-exactly}
 use Rattle.strip.proofs.Encoded.{within-reads}
@@ -39,34 +42,9 @@ module _ (s : List ℕ) (t : List ℤ) (r : Reading) (t′ : List ℤ) (is : cal
   unfolding readCall
   table-is = ap (λ (c : ReadCall). c .table) is
 
-  -- the used part is the table that was read
-  pub read-used : (n u : ℕ) → r ≡ Read n u → take u t′ ≡ readStrip s (length t) .table
-  read-used n u e =
-      let T = readStrip s (length t) .table in
-      ap (take u) table-is ∙ take-at T _ u (sym (sized s (length t) .0) ∙ ap readLength (sym reading-is ∙ e))
-
-  -- "a refused call changes no lent element"
-  pub read-refused-unchanged : (f : Refusal) → r ≡ Refused f → t′ ≡ t
-  read-refused-unchanged f e =
-      let a : Ended s (length t) 0 nothingRead [] (Refused f) (readStrip s (length t) .table) = rw (sym reading-is ∙ e) at (answered s (length t)) in
-      table-is ∙ rw (a .0)
-
-  -- A2: 5 names the group that is open at its place; "for all other numbers it is 0"
-  pub read-names : Bytes s → Names (UnknownInStrip s) (readingReceipt r)
-  read-names b = rw reading-is (strip-names s b (length t))
-
-  -- "24 first, place 0": over 16,384 bytes, and at no other time
-  pub read-too-long : (readingReceipt r .number ≡ numberOf StripTooLong → maxStrip < length s) × (maxStrip < length s → r ≡ Refused (refusal StripTooLong 0))
-  unfolding readBy
-  read-too-long = (go r reading-is, λ h. rw (reading-is, lt-ltb maxStrip (length s) h))
-    where
-      go : (x : Reading) → x ≡ readStrip s (length t) .reading → readingReceipt x .number ≡ numberOf StripTooLong → maxStrip < length s
-      go (Read n u) q e = absurd (omega arith)
-      go (Refused f) q e = too-long s (length t) f (sym q) e
-
   -- "Every .. strip within the limits of document 01, with room lent for the results, is accepted", "Every other input is refused"
-  pub accepted-exactly : Bytes s → (n u : ℕ) → (r ≡ Read n u) ↔ ((l : List Item) × StripWithin s n l × (u ≡ length (tableOf (groups l))) × (u ≤ length t))
-  accepted-exactly b n u = (
+  pub read-accepts : Bytes s → (n u : ℕ) → (r ≡ Read n u) ↔ ((l : List Item) × StripWithin s n l × (u ≡ length (tableOf (groups l))) × (u ≤ length t))
+  read-accepts b n u = (
     λ e.
         let a : Ended s (length t) 0 nothingRead [] (Read n u) (readStrip s (length t) .table) = rw (sym reading-is ∙ e) at (answered s (length t)) in
         let l = a .3 in
@@ -89,10 +67,47 @@ module _ (s : List ℕ) (t : List ℤ) (r : Reading) (t′ : List ℤ) (is : cal
     λ w. reading-is ∙ ap (λ (d : Decoding). d .reading) (within-reads s b (length t) n (w .0) (w .1) (omega (arith, w .2, w .3))) ∙ ap (Read n) (sym (w .2)),
   )
 
+  -- 16 strip read, with n and the used length
+  pub read-answers : NotRefused Refused r → (readingReceipt r ≡ receipt 16 0 0) × (r ≡ Read (readVariables r) (readLength r))
+  read-answers = go r
+    where
+      go : (x : Reading) → NotRefused Refused x → (readingReceipt x ≡ receipt 16 0 0) × (x ≡ Read (readVariables x) (readLength x))
+      go (Read n u) h = (refl, refl)
+      go (Refused f) h = absurd (h f refl)
+
+  -- "a refused call changes no lent element"; n and the used length are "both 0 on refusal"
+  pub read-refused-unchanged : (f : Refusal) → r ≡ Refused f → (t′ ≡ t) × (readVariables r ≡ 0) × (readLength r ≡ 0)
+  read-refused-unchanged f e =
+      let a : Ended s (length t) 0 nothingRead [] (Refused f) (readStrip s (length t) .table) = rw (sym reading-is ∙ e) at (answered s (length t)) in
+      (table-is ∙ rw (a .0), ap readVariables e, ap readLength e)
+
+  -- A2: 5 names the group that is open at its place; "for all other numbers it is 0"
+  pub read-names : Bytes s → Names (UnknownInStrip s) (readingReceipt r)
+  read-names b = rw reading-is (strip-names s b (length t))
+
+  -- "Strips: 24 first, place 0; then command by command 20, 22, 21, value (1 or 5), limit (2 .., 3 ..), 23": what it is refused with, and for no other strip
+  pub read-refused : (w : Refusal) → (r ≡ Refused w) ↔ RefusedStrip s (length t) w
+  read-refused w = let x = refused-exactly s (length t) w in (λ e. x .0 (sym reading-is ∙ e), λ f. reading-is ∙ x .1 f)
+
+  -- "24 first, place 0": over 16,384 bytes, and at no other time
+  pub read-too-long : (readingReceipt r .number ≡ numberOf StripTooLong → maxStrip < length s) × (maxStrip < length s → r ≡ Refused (refusal StripTooLong 0))
+  unfolding readBy
+  read-too-long = (go r reading-is, λ h. rw (reading-is, lt-ltb maxStrip (length s) h))
+    where
+      go : (x : Reading) → x ≡ readStrip s (length t) .reading → readingReceipt x .number ≡ numberOf StripTooLong → maxStrip < length s
+      go (Read n u) q e = absurd (omega arith)
+      go (Refused f) q e = too-long s (length t) f (sym q) e
+
   -- and its table stands at the start of the one lent
-  pub accepted-table : Bytes s → (n : ℕ) (l : List Item) → StripWithin s n l → length (tableOf (groups l)) ≤ length t →
+  pub read-accepts-table : Bytes s → (n : ℕ) (l : List Item) → StripWithin s n l → length (tableOf (groups l)) ≤ length t →
       t′ ≡ over (length (tableOf (groups l))) (tableOf (groups l)) t
-  accepted-table b n l w fits = table-is ∙ rw (within-reads s b (length t) n l w fits)
+  read-accepts-table b n l w fits = table-is ∙ rw (within-reads s b (length t) n l w fits)
+
+  -- the used part is the table that was read
+  pub read-used : (n u : ℕ) → r ≡ Read n u → take u t′ ≡ readStrip s (length t) .table
+  read-used n u e =
+      let T = readStrip s (length t) .table in
+      ap (take u) table-is ∙ take-at T _ u (sym (sized s (length t) .0) ∙ ap readLength (sym reading-is ∙ e))
 
   -- A3 -----------------------------------------------------------------------------------------------------------------
 

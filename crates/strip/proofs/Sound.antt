@@ -29,6 +29,7 @@ use Rattle.theory.specs.Strip.{turnOf, same, nothingRead, entered, obey}
 use Rattle.theory.specs.Encoding.{Item, chapter, group, commandBytes, entryBytes, itemBytes, encode, groups, tableOf, entries, Bytes}
 use Rattle.theory.proofs.Tables.{known-variable, InRange, push-range}
 use Rattle.reader.proofs.Commands.{OfCommand}
+use Rattle.strip.specs.Faults.{with}
 
 -- inside a group its closing 0 is still to come
 abbrev pub pending : Turn → ℕ
@@ -46,14 +47,10 @@ pub record Sound (p : Progress) (used : ℕ) : Type 0 where
 pub begun-sound : Sound nothingRead 0
 begun-sound = record { variables = omega arith; clauses = omega arith; literals = omega arith; elements = refl }
 
--- how many elements are stored, and the table with them
+-- how many elements are stored
 abbrev pub elements : Stored → ℕ
 elements Nothing = 0
 elements (Element e) = 1
-
-abbrev pub with : List ℤ → Stored → List ℤ
-with t Nothing = t
-with t (Element e) = t ++ (e ∷ [])
 
 -- what is left of a strip: the entries of the open group, and the items after it
 abbrev pub ahead : Turn → ℕ → Clause → List Item → List ℕ

@@ -1,20 +1,21 @@
 -- What a call of Take back promises, by its receipt, the new used length and the buffer after it. All of it follows from the equation that `take_back` ensures.
 use mathlib.Core.Path.{_≡_, refl, ap, sym, subst, _∙_}
+use mathlib.Core.Bool.{Bool, true, false}
 use mathlib.Core.Logic.{_↔_}
 use mathlib.Core.List.{List, [], _∷_, _++_, append-assoc}
 use Prim.Native.Nat.{ℕ, _+_, _-_, _<_, _≤_}
 use native.Mathlib.Decide.{decLt}
 use native.Mathlib.Omega.{arith}
-use borrow.Author.Tests.{ltb-true, ltb-false, le-ltb, eqb-true, eqb-false}
+use borrow.Author.Tests.{ltb-false, lt-ltb, le-ltb, eqb-true, eqb-false, eq-eqb, ne-eqb}
 use lib.Dec.{ltb, eqb}
 use lib.IntN.{ℤ, pos as posℤ}
 use lib.ListN.{length, take, drop, replicate, length-append, length-replicate, take-append-drop}
 use lib.Seq.{length-take-le, take-take}
 use Rattle.general.specs.Appending.{Appended, appended-length, appended-before, appended-new, appended-past}
-use Rattle.general.specs.Booleans.{cond-ind}
 use Rattle.general.specs.Search.{firstPlace}
 use Rattle.literal.specs.Literal.{maxVariables}
 use Rattle.receipt.specs.Receipt.{done, receipt, refusal}
+use Rattle.receipt.specs.Receipt as faults
 use Rattle.receipt.specs.Answers.{takingBackReceipt, lengthLeft, addingReceipt, addedLength}
 use Rattle.receipt.specs.declared.Adding.{Adding}
 use Rattle.receipt.specs.declared.Checked.{Checked}
@@ -24,53 +25,27 @@ use Rattle.receipt.specs.declared.Receipt.{Receipt}
 use Rattle.receipt.specs.declared.Refusal.{Refusal}
 use Rattle.receipt.specs.declared.TakingBack.{TakingBack}
 use Rattle.receipt.specs.declared.TakingBack.the-variants as taking-back
-use Rattle.receipt.proofs.Numbers.{not-refused}
-use Rattle.theory.specs.Calls.{AddCall, added, TakeBackCall, cleared, takeBackChecked, takeBackCall}
+use Rattle.theory.specs.Calls.{AddCall, added, TakeBackCall, takeBackRefused, cleared, takenBackCall, takeBackCall}
 use Rattle.theory.specs.Heads.{lastStart, lastGroup}
+use Rattle.theory.specs.Refusing.{refusedIf, atMost, firstOf, firstRefusal, NotRefused}
 use Rattle.theory.specs.Table.{zeros, nonzeros, endsOpen, check, WithinLimits}
 use Rattle.theory.specs.Unknown.{UnknownInTable, Names}
 use Rattle.theory.proofs.LastGroup.{Last, last-found, last-clauses, last-zeros, last-start, start-inside}
+use Rattle.theory.proofs.Refusing.{not-passed, if-passes, most-passes, both-pass, last-passes, table-named, passed-named, first-named, if-named, most-named, number-not-refused, Refusing, accepted-is, refused-with, accepted-when, unchanged, call-names}
 use Rattle.theory.proofs.Tables.{length-elements, accepted-exactly, accepted-closed, accepted-sizes, check-refuses}
-use Rattle.theory.proofs.Unknown.{none-named, refusal-names, check-unknown}
+use Rattle.theory.proofs.Unknown.{none-named}
 use Rattle.add.specs.Addable.{Addable}
 use Rattle.add.proofs.Growing.{withZero, shrunk-follows, grown-limits, grown-last, added-table, added-before, added-after, added-length}
 use Rattle.add.proofs.Promises as adds
 use Rattle.take_back.specs.TakeBack.{called}
 use Rattle.take_back.specs.Taken.{Takeable, Taken, Restored, AddedBack}
-use Rattle.take_back.proofs.Calling.{call-taken}
 
 abbrev pub numberOf : TakingBack → ℕ
 numberOf r = takingBackReceipt r .number
 
-abbrev pub NotRefused : TakingBack → Type 0
-NotRefused r = (w : Refusal) → ¬ (r ≡ taking-back.Refused w)
-
 -- a call of Take back on the first u elements of buffer b: its answer r, and the buffer after it
 pub record Call (u n : ℕ) (b : List ℤ) (r : TakingBack) (b′ : List ℤ) : Type 0 where
   pub is : called r b′ ≡ takeBackCall u n b
-
--- the ways in which a call ends
-data Way (u n : ℕ) (b : List ℤ) : TakingBack → List ℤ → Type 0 where
-  past-buffer : length b < u → Way u n b (taking-back.Refused (refusal UsedLengthWrong 0)) b
-  wrong-table : (w : Refusal) → u ≤ length b → check n (take u b) ≡ Refused w → Way u n b (taking-back.Refused w) b
-  nothing : u ≤ length b → WithinLimits n (take u b) → zeros (take u b) ≡ 0 → Way u n b (taking-back.Refused (refusal NoClause 0)) b
-  taken : Takeable u n b → Way u n b (taking-back.TakenBack (lastStart (take u b))) (cleared (lastStart (take u b)) u b)
-
-abbrev By : ℕ → ℕ → List ℤ → TakeBackCall → Type 0
-By u n b s = Way u n b (s .answer) (s .buffer)
-
-way : {u n : ℕ} {b : List ℤ} {r : TakingBack} {b′ : List ℤ} → Call u n b r b′ → Way u n b r b′
-unfolding takeBackCall
-way {u} {n} {b} c = subst (By u n b) (sym (c .is))
-    (cond-ind (By u n b) _ _ (ltb (length b) u) (λ k. past-buffer (ltb-true (length b) u k)) (λ k. checked (ltb-false (length b) u k) (check n (take u b)) refl))
-  where
-    checked : u ≤ length b → (k : Checked) → check n (take u b) ≡ k → By u n b (takeBackChecked k u b)
-    checked h (Refused w) e = wrong-table w h e
-    checked h Passed e =
-        let z = zeros (take u b) in
-        cond-ind (By u n b) _ _ (eqb z 0)
-        (λ k. nothing h (accepted-sizes n (take u b) e) (eqb-true z 0 k))
-        (λ k. let not-none = eqb-false z 0 k in taken (record { used = h; within = accepted-sizes n (take u b) e; some = omega (arith, not-none) }))
 
 -- the used part and its last group -----------------------------------------------------------------------------------
 
@@ -129,92 +104,92 @@ empty-accepted n l = rw (le-ltb maxVariables n l)
 -- the promises -------------------------------------------------------------------------------------------------------
 
 module _ {u n : ℕ} {b : List ℤ} {r : TakingBack} {b′ : List ℤ} (c : Call u n b r b′) where
+  -- a call by its checks: "taking back has 12, 1 to 5, then 28, nothing to take back, when there is no group"
+  abbrev none : Checked
+  none = refusedIf (eqb (zeros (take u b)) 0) NoClause
+
+  abbrev checks : Checked
+  checks = firstRefusal (atMost u (length b) UsedLengthWrong ∷ check n (take u b) ∷ none ∷ [])
+
+  by-checks : Refusing taking-back.Refused (λ (s : TakeBackCall). s .answer) (λ w. takeBackRefused w b) checks (takenBackCall u b) (called r b′)
+  unfolding takeBackCall
+  by-checks = record { is = c .is; turns = λ w. refl; accepts = λ w e. let z : _≡_ {A = ℕ} 0 1 = cc in omega arith }
+
+  checked : (checks ≡ Passed) ↔ Takeable u n b
+  checked =
+      let k = both-pass (most-passes u (length b) UsedLengthWrong) (both-pass (accepted-exactly n (take u b)) (last-passes (if-passes (eqb (zeros (take u b)) 0) NoClause))) in (
+        λ e. let h = k .0 e in let not-none = eqb-false (zeros (take u b)) 0 (h .1 .1) in record { used = h .0; within = h .1 .0; some = omega (arith, not-none) },
+        λ a. k .1 (a .used, (a .within, ne-eqb (zeros (take u b)) 0 (λ e. omega (arith, e, a .some)))),
+      )
+
   -- demand 1, of Take back: accepted exactly when there is a group to take back
-  pub take-back-accepts : NotRefused r ↔ Takeable u n b
-  take-back-accepts = go (way c)
-    where
-      go : {r : TakingBack} {b′ : List ℤ} → Way u n b r b′ → NotRefused r ↔ Takeable u n b
-      go (past-buffer h) = (λ k. absurd (k _ refl), λ a. absurd (omega (arith, h, a .used)))
-      go (wrong-table w h e) = (λ k. absurd (k w refl), λ a. absurd (let z : _≡_ {A = ℕ} 0 1 = cc (accepted-exactly n (take u b) .1 (a .within)) in omega arith))
-      go (nothing h l z) = (λ k. absurd (k _ refl), λ a. absurd (omega (arith, z, a .some)))
-      go (taken a) = (λ _. a, λ _ w q. let z : _≡_ {A = ℕ} 0 1 = cc in omega arith)
+  pub take-back-accepts : NotRefused taking-back.Refused r ↔ Takeable u n b
+  take-back-accepts = accepted-when by-checks checked
 
-  take-back-takeable : numberOf r ≡ done → Takeable u n b
-  take-back-takeable q = take-back-accepts .0 (λ w e. not-refused (w .fault) done refl (sym (ap numberOf e) ∙ q))
-
-  take-back-taken : Takeable u n b → called r b′ ≡ called (taking-back.TakenBack (lastStart (take u b))) (cleared (lastStart (take u b)) u b)
-  take-back-taken a = c .is ∙ sym (call-taken u n b (a .used) (accepted-exactly n (take u b) .1 (a .within)) (omega (arith, inside a)))
+  take-back-taken : Takeable u n b → called r b′ ≡ takenBackCall u b
+  take-back-taken a = accepted-is by-checks (checked .1 a)
 
   -- 18 done, place 0; "the new used length is the answer": where the last group started
-  pub take-back-answers : NotRefused r → (takingBackReceipt r ≡ receipt done 0 0) × (lengthLeft r ≡ lastStart (take u b))
-  take-back-answers = go (way c)
-    where
-      go : {r : TakingBack} {b′ : List ℤ} → Way u n b r b′ → NotRefused r → (takingBackReceipt r ≡ receipt done 0 0) × (lengthLeft r ≡ lastStart (take u b))
-      go (past-buffer h) k = absurd (k _ refl)
-      go (wrong-table w h e) k = absurd (k w refl)
-      go (nothing h l z) k = absurd (k _ refl)
-      go (taken a) k = (refl, refl)
+  pub take-back-answers : NotRefused taking-back.Refused r → (takingBackReceipt r ≡ receipt done 0 0) × (lengthLeft r ≡ lastStart (take u b))
+  take-back-answers h =
+      let e = take-back-taken (take-back-accepts .0 h) in
+      (ap (λ (s : TakeBackCall). takingBackReceipt (s .answer)) e, ap (λ (s : TakeBackCall). lengthLeft (s .answer)) e)
 
   -- demand 1: "a refused call changes no lent element"; "0 on refusal"
   pub take-back-refused-unchanged : (w : Refusal) → r ≡ taking-back.Refused w → (b′ ≡ b) × (lengthLeft r ≡ 0)
-  take-back-refused-unchanged w = go (way c)
-    where
-      go : {r : TakingBack} {b′ : List ℤ} → Way u n b r b′ → r ≡ taking-back.Refused w → (b′ ≡ b) × (lengthLeft r ≡ 0)
-      go (past-buffer h) q = (refl, refl)
-      go (wrong-table x h e) q = (refl, refl)
-      go (nothing h l z) q = (refl, refl)
-      go (taken a) q = absurd (let z : _≡_ {A = ℕ} 0 1 = cc in omega arith)
+  take-back-refused-unchanged w e = (ap (λ (s : TakeBackCall). s .buffer) (unchanged by-checks w e .2), ap lengthLeft e)
 
-  -- "taking back has 12, 1 to 5"
-  pub take-back-past-buffer : length b < u → r ≡ taking-back.Refused (refusal UsedLengthWrong 0)
-  take-back-past-buffer l = go (way c)
-    where
-      go : {r : TakingBack} {b′ : List ℤ} → Way u n b r b′ → r ≡ taking-back.Refused (refusal UsedLengthWrong 0)
-      go (past-buffer h) = refl
-      go (wrong-table w h e) = absurd (omega arith)
-      go (nothing h k z) = absurd (omega arith)
-      go (taken a) = absurd (omega (arith, a .used))
+  -- A2: 5 is for the first unknown placement of the used part, with its group; "for all other numbers it is 0"
+  pub take-back-names : Names (UnknownInTable n (take u b)) (takingBackReceipt r)
+  take-back-names = call-names by-checks takingBackReceipt (λ w. refl)
+      (first-named _ _ (most-named u (length b) UsedLengthWrong (λ e. omega arith)) (λ _. first-named _ _ (table-named n (take u b)) (λ _. first-named _ _ (if-named (eqb (zeros (take u b)) 0) NoClause (λ e. omega arith)) (λ _. passed-named refl))))
+      (none-named done 0 0 (λ e. omega arith))
 
+  -- "taking back has 12,
+  pub take-back-used-wrong : length b < u → r ≡ taking-back.Refused (refusal UsedLengthWrong 0)
+  take-back-used-wrong l = refused-with by-checks (refusal UsedLengthWrong 0) (rw (lt-ltb (length b) u l))
+
+  -- 1 to 5"
   pub take-back-table-refused : u ≤ length b → (w : Refusal) → check n (take u b) ≡ Refused w → r ≡ taking-back.Refused w
-  unfolding takeBackCall
-  take-back-table-refused h w e = ap (λ (s : TakeBackCall). s .answer) (c .is) ∙ rw (le-ltb (length b) u h, e)
+  take-back-table-refused h w e = refused-with by-checks w (rw (le-ltb (length b) u h, e))
 
   -- "then 28, nothing to take back, when there is no group"
   pub take-back-nothing : (r ≡ taking-back.Refused (refusal NoClause 0)) ↔ ((u ≡ 0) × (n ≤ maxVariables))
   unfolding zeros
-  take-back-nothing = go (way c)
+  take-back-nothing = (
+    λ q. let x = unchanged by-checks (refusal NoClause 0) q in let e : x .0 ≡ refusal NoClause 0 = cc (ap (λ (s : TakeBackCall). s .answer) (x .2)) in found (rw e at (x .1)),
+    λ (z, l).
+        let a : check n (take u b) ≡ Passed = rw z (empty-accepted n l) in
+        let k : zeros (take u b) ≡ 0 = rw z in
+        refused-with by-checks (refusal NoClause 0) (rw (le-ltb (length b) u (omega arith), a, eq-eqb (zeros (take u b)) 0 k)),
+  )
     where
-      no-limits : (w : Refusal) → u ≡ 0 → n ≤ maxVariables → ¬ (check n (take u b) ≡ Refused w)
-      no-limits w z l e = let k : check n (take u b) ≡ Passed = rw z (empty-accepted n l) in let y : _≡_ {A = ℕ} 0 1 = cc in omega arith
+      -- no check before it refuses with 28
+      none-found : (d : Checked) → check n (take u b) ≡ d → u ≤ length b → firstOf d (firstOf none Passed) ≡ Refused (refusal NoClause 0) → (u ≡ 0) × (n ≤ maxVariables)
+      none-found (Refused w) e h q = let k : w ≡ refusal NoClause 0 = cc in absurd (omega (arith, check-refuses n (take u b) w e, ap (λ (x : Refusal). faults.numberOf (x .fault)) k))
+      none-found Passed e h q =
+          let l = accepted-sizes n (take u b) e in
+          (empty-used u n b h l (by-test (eqb (zeros (take u b)) 0) refl q), l .variables)
+        where
+          by-test : (p : Bool) → eqb (zeros (take u b)) 0 ≡ p → firstOf (refusedIf p NoClause) Passed ≡ Refused (refusal NoClause 0) → zeros (take u b) ≡ 0
+          by-test true e q = eqb-true (zeros (take u b)) 0 e
+          by-test false e q = absurd (not-passed (sym q))
 
-      no-group : u ≡ 0 → zeros (take u b) ≡ 0
-      no-group z = rw z
+      found : checks ≡ Refused (refusal NoClause 0) → (u ≡ 0) × (n ≤ maxVariables)
+      found = by-length (ltb (length b) u) refl
+        where
+          by-length : (p : Bool) → ltb (length b) u ≡ p → firstOf (refusedIf p UsedLengthWrong) (firstOf (check n (take u b)) (firstOf none Passed)) ≡ Refused (refusal NoClause 0) → (u ≡ 0) × (n ≤ maxVariables)
+          by-length true e q = let k : refusal UsedLengthWrong 0 ≡ refusal NoClause 0 = cc in absurd (omega (arith, ap (λ (x : Refusal). faults.numberOf (x .fault)) k))
+          by-length false e q = none-found (check n (take u b)) refl (ltb-false (length b) u e) q
 
-      go : {r : TakingBack} {b′ : List ℤ} → Way u n b r b′ → (r ≡ taking-back.Refused (refusal NoClause 0)) ↔ ((u ≡ 0) × (n ≤ maxVariables))
-      go (past-buffer h) = (λ q. absurd (omega (arith, ap numberOf q)), λ (z, l). absurd (omega (arith, z, h)))
-      go (wrong-table w h e) = (λ q. absurd (omega (arith, ap numberOf q, check-refuses n (take u b) w e)), λ (z, l). absurd (no-limits w z l e))
-      go (nothing h l z) = (λ q. (empty-used u n b h l z, l .variables), λ _. refl)
-      go (taken a) = (λ q. absurd (omega (arith, ap numberOf q)), λ (z, l). absurd (omega (arith, a .some, no-group z)))
-
-  -- A2: 5 is for the first unknown placement of the used part, with its group; "for all other numbers it is 0"
-  pub take-back-names : Names (UnknownInTable n (take u b)) (takingBackReceipt r)
-  take-back-names = go (way c)
-    where
-      go : {r : TakingBack} {b′ : List ℤ} → Way u n b r b′ → Names (UnknownInTable n (take u b)) (takingBackReceipt r)
-      go (past-buffer h) = none-named 12 0 0 (λ e. omega arith)
-      go (wrong-table w h e) = refusal-names w (check-unknown n (take u b) w e)
-      go (nothing h l z) = none-named 28 0 0 (λ e. omega arith)
-      go (taken a) = none-named done 0 0 (λ e. omega arith)
+  take-back-takeable : numberOf r ≡ done → Takeable u n b
+  take-back-takeable q = take-back-accepts .0 (number-not-refused takingBackReceipt (λ w. refl) r done refl q)
 
   -- 18: the last group is gone, and its elements and its 0 are 0
   pub take-back-takes : numberOf r ≡ done → Taken u n (lastGroup (take u b)) b b′ (lengthLeft r)
-  take-back-takes = go (way c)
-    where
-      go : {r : TakingBack} {b′ : List ℤ} → Way u n b r b′ → numberOf r ≡ done → Taken u n (lastGroup (take u b)) b b′ (lengthLeft r)
-      go (past-buffer h) q = absurd (omega arith)
-      go (wrong-table w h e) q = absurd (not-refused (w .fault) done refl q)
-      go (nothing h l z) q = absurd (omega arith)
-      go (taken a) q = record {
+  take-back-takes q =
+      let a = take-back-takeable q in
+      subst (λ (s : TakeBackCall). Taken u n (lastGroup (take u b)) b (s .buffer) (lengthLeft (s .answer))) (sym (take-back-taken a)) (record {
         last = is-last a .whole ∙ ap (λ x. x ++ (lastGroup (take u b) ++ (posℤ 0 ∷ []))) (front a);
         one = is-last a .no-zeros;
         cleared = run-cleared a;
@@ -222,7 +197,7 @@ module _ {u n : ℕ} {b : List ℤ} {r : TakingBack} {b′ : List ℤ} (c : Call
         after = rest-kept a;
         limits = rw (front-kept a, ← front a) (shrunk-follows (a .within) (is-last a) .within);
         groups = rw (front-kept a, ← front a) (last-clauses (is-last a));
-      }
+      })
 
 -- "Adding and then taking back restores the length and all elements before it; those the group had filled are 0, later ones untouched."
 module _ {u n : ℕ} {g b : List ℤ} (a : Addable u n g b) where
@@ -258,9 +233,9 @@ module _ {u n : ℕ} {g b : List ℤ} (a : Addable u n g b) where
         after = s .after ∙ added-after u g b (a .room);
       }
 
-pub add-then-take-back : {u n : ℕ} {g b : List ℤ} {a : Adding} {b′ : List ℤ} → adds.Call u n g b a b′ → adds.numberOf a ≡ 15 →
+pub take-back-after-add : {u n : ℕ} {g b : List ℤ} {a : Adding} {b′ : List ℤ} → adds.Call u n g b a b′ → adds.numberOf a ≡ 15 →
     {r : TakingBack} {b″ : List ℤ} → Call (addedLength a) n b′ r b″ → Restored u (addedLength a) b r b″
-add-then-take-back {u} {n} {g} {b} c q {r} {b″} =
+take-back-after-add {u} {n} {g} {b} c q {r} {b″} =
     let h = adds.add-addable c q in
     subst (λ (s : AddCall). Call (addedLength (s .answer)) n (s .buffer) r b″ → Restored u (addedLength (s .answer)) b r b″) (sym (adds.add-adds c h)) (undone h)
 

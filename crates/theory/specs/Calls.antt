@@ -33,7 +33,7 @@ use Rattle.receipt.specs.declared.Reading.the-variants as reading
 use Rattle.receipt.specs.declared.Saving.{Saving}
 use Rattle.receipt.specs.declared.Saving.the-variants as saving
 use Rattle.receipt.specs.declared.Receipt.{Receipt}
-use Rattle.receipt.specs.Receipt.{numberOf, unknownVariable, refusal}
+use Rattle.receipt.specs.Receipt.{numberOf, unknownVariable}
 use Rattle.receipt.specs.Answers.{searchingReceipt, readVariables}
 use Rattle.theory.specs.Formula.{Formula, Choice, clauses}
 use Rattle.theory.specs.Heads.{headsOf, lastStart}

@@ -88,8 +88,8 @@ module _ (s : List ℕ) (r : Typed) (old out : List ℕ) (call : called r out �
       go h (message b) e = (b, refl, (rw (sym writes ∙ e) at (says s)) .0)
 
 -- the program reads one byte past the longest text: that gets what the whole input would
-pub one-past : (s : List ℕ) → outputOf (take (suc maxText) s) ≡ outputOf s
-one-past s = elim (decLe (length s) (suc maxText)) [
+pub typed-one-past : (s : List ℕ) → outputOf (take (suc maxText) s) ≡ outputOf s
+typed-one-past s = elim (decLe (length s) (suc maxText)) [
   | yes h ↦ ap outputOf (take-all (suc maxText) s h)
   | no h ↦ sym (too-long (take (suc maxText) s) (omega (arith, length-take (suc maxText) s))) ∙ too-long s (omega arith)
 ]

@@ -3,15 +3,15 @@
 -- All of it follows from the equation that `window` ensures.
 use mathlib.Core.Path.{_≡_, refl, ap, sym, _∙_}
 use mathlib.Core.Logic.{_⊎_, inl, inr, ⊎-elim, _↔_}
-use mathlib.Core.List.{List, [], _∷_, map}
-use Prim.Native.Nat.{ℕ, _+_, _≤_, _<_, min}
+use mathlib.Core.List.{List, map}
+use Prim.Native.Nat.{ℕ, _≤_, _<_, min}
 use native.Mathlib.Decide.{decLt}
 use native.Mathlib.Omega.{arith}
 use borrow.Author.Tests.{le-ltb}
 use lib.IntN.{ℤ, pos as posℤ}
-use lib.ListN.{length, take, drop, replicate, length-map, length-append, length-replicate}
+use lib.ListN.{length, take, drop, replicate, length-replicate}
 use Rattle.general.specs.Booleans.{bit}
-use Rattle.literal.specs.Literal.{entryOf, maxVariables, maxTable}
+use Rattle.literal.specs.Literal.{maxVariables, maxTable}
 use Rattle.receipt.specs.declared.Fault.the-variants.{PlanShort, ReceiptShort, TableShort, UnmentionedVariable}
 use Rattle.receipt.specs.declared.Outcome.{Outcome}
 use Rattle.receipt.specs.declared.Outcome.the-variants.{LaidOut, NoLayout, Stopped}
@@ -25,8 +25,8 @@ use Rattle.receipt.specs.Answers.{searchingReceipt}
 use Rattle.receipt.proofs.Numbers.{not-refused, outcome-answers}
 use Rattle.theory.specs.Bound.{N}
 use Rattle.theory.specs.Calls.{over, SearchCall, searchRefused, searchCall, readCall, solveCall, receiptLength, receiptBytes, WindowCall, written, windowCall}
-use Rattle.theory.specs.Encoding.{Item, groups, tableOf, entries, StripWithin, UnmentionedInStrip, Bytes}
-use Rattle.theory.specs.Formula.{Formula, Choice, clauses, Solution}
+use Rattle.theory.specs.Encoding.{Item, groups, tableOf, StripWithin, UnmentionedInStrip, Bytes}
+use Rattle.theory.specs.Formula.{Choice, clauses, Solution}
 use Rattle.theory.specs.Mentions.{AllStand}
 use Rattle.theory.specs.Order.{_≼_, Least}
 use Rattle.theory.specs.Search.{needs}
@@ -34,11 +34,12 @@ use Rattle.theory.specs.Strip.{Decoding, readStrip}
 use Rattle.theory.specs.Unknown.{UnknownInStrip, Names}
 use Rattle.theory.proofs.Encodings.{clauses-table}
 use Rattle.theory.proofs.Mentions.{mentioned-exactly}
+use Rattle.theory.proofs.Refusing.{passed-named}
 use Rattle.theory.proofs.Tables.{accepted-sizes, accepted-exactly as table-accepted}
 use Rattle.strip.proofs.Accepted.{read-accepted}
 use Rattle.strip.proofs.Ends.{never-short}
-use Rattle.strip.proofs.Encoded.{within-reads}
-use Rattle.strip.proofs.Promises.{accepted-exactly}
+use Rattle.strip.proofs.Encoded.{within-read}
+use Rattle.strip.proofs.Promises.{read-accepts}
 use Rattle.search.specs.Call as search
 use Rattle.strip.proofs.Receipts.{strip-names, strip-unmentioned}
 use Rattle.strip.proofs.Unmentioned.{unmentioned-exactly}
@@ -48,19 +49,11 @@ use Rattle.window.specs.Window.{called}
 use Rattle.window.proofs.Calling.{call-short}
 use Rattle.window.specs.Call.{Acceptable, Stamped, Call, Reports, refusedCall, numberAt, countOf, receiptOn, Alike}
 
--- the table of a strip within the limits ---------------------------------------------------------------------------
-
-table-length : (f : Formula) → length (tableOf f) ≡ length f + entries f
-unfolding tableOf entries
-table-length [] = refl
-table-length (c ∷ f) = omega (arith, table-length f, length-append (map entryOf c) (posℤ 0 ∷ tableOf f), length-map c entryOf)
-
-within-read : {s : List ℕ} {n : ℕ} {l : List Item} → Bytes s → StripWithin s n l → readStrip s maxTable ≡ record { reading = Read n (length (tableOf (groups l))); table = tableOf (groups l) }
-within-read {s} {n} {l} b w = let k = w .limits in within-reads s b maxTable n l w (omega (arith, table-length (groups l), k .clauses, k .literals))
+-- a strip that is read ---------------------------------------------------------------------------------------------
 
 strip-exactly : (s : List ℕ) → Bytes s → (n u : ℕ) (t : List ℤ) → length t ≡ maxTable → readStrip s maxTable .reading ≡ Read n u → (l : List Item) × StripWithin s n l
 unfolding readCall
-strip-exactly s b n u t k e = let r = accepted-exactly s t (readCall s t .answer) (readCall s t .table) refl b n u .0 (rw k e) in (r .0, r .1)
+strip-exactly s b n u t k e = let r = read-accepts s t (readCall s t .answer) (readCall s t .table) refl b n u .0 (rw k e) in (r .0, r .1)
 
 -- what is on the receipt -------------------------------------------------------------------------------------------
 
@@ -110,12 +103,11 @@ module _ {s : List ℕ} {b : ℕ} {plan old : List ℕ} {w : WindowCall} (h : St
 
   -- A2: 5 names the group of the strip that is open at its place; "for all other numbers it is 0"
   pub window-names : Bytes s → Names (UnknownInStrip s) (receiptOn (w .receipt))
-  unfolding searchCall
   window-names k = rw (stamped, receipt-read) (go (readStrip s maxTable .reading) refl)
     where
       go : (r : Reading) → readStrip s maxTable .reading ≡ r → Names (UnknownInStrip s) (searchingReceipt (solveCall s b plan own .answer))
       go (Refused f) e = rw (solve-refused s b plan own f e) (rw e at (strip-names s k maxTable))
-      go (Read n u) e = rw (solve-reads s b plan own n u e, read-accepted s maxTable n u e) (promises.passed-names n (readStrip s maxTable .table) b plan own)
+      go (Read n u) e = rw (solve-reads s b plan own n u e) (promises.search-names-by n (readStrip s maxTable .table) b plan own _ refl (passed-named (read-accepted s maxTable n u e)))
 
   -- "Elements not named are never changed."
   pub window-receipt-rest : drop receiptLength (w .receipt) ≡ drop receiptLength old
@@ -155,7 +147,7 @@ module _ {s : List ℕ} {b : ℕ} {plan old : List ℕ} {w : WindowCall} (h : St
         | no k ↦
             let l : n ≤ length plan = omega arith in
             let q = ap (λ (c : WindowCall). c .number) (read n u e) in
-            inr (n, u, e, l, ⊎-elim (λ r. (LaidOut, q ∙ r)) (⊎-elim (λ r. (NoLayout, q ∙ r)) (λ r. (Stopped, q ∙ r))) (promises.ends (searched n u e l)))
+            inr (n, u, e, l, ⊎-elim (λ r. (LaidOut, q ∙ r)) (⊎-elim (λ r. (NoLayout, q ∙ r)) (λ r. (Stopped, q ∙ r))) (promises.search-ends (searched n u e l)))
       ]
 
   turned-unanswered : Turned → (o : Outcome) → ¬ Reports w o
@@ -246,49 +238,49 @@ module _ {s : List ℕ} {n : ℕ} {l : List Item} {b : ℕ} {plan old : List ℕ
 
   -- demand 1: "a search brings back a layout, no layout, or a stop"
   pub window-ends : Reports w LaidOut ⊎ Reports w NoLayout ⊎ Reports w Stopped
-  window-ends = ⊎-elim (λ e. inl (reported e)) (⊎-elim (λ e. inr (inl (reported e))) (λ e. inr (inr (reported e)))) (promises.ends call)
+  window-ends = ⊎-elim (λ e. inl (reported e)) (⊎-elim (λ e. inr (inl (reported e))) (λ e. inr (inr (reported e)))) (promises.search-ends call)
 
   -- demand 2: "it is the first such choice, counting from placement 1 with left out before taken"
   pub window-first-layout : Reports w LaidOut → (f : Choice) × Least _≼_ (Solution n (groups l)) f × (take n (w .plan) ≡ map bit f)
-  window-first-layout e = rw plan-is (rw is-formula at (promises.first-layout call (reports e)))
+  window-first-layout e = rw plan-is (rw is-formula at (promises.search-first-layout call (reports e)))
 
   -- demand 2: "When no choice does so it reports no layout, and at no other time"
   pub window-no-layout-exactly : ¬ Reports w Stopped → Reports w NoLayout ↔ ((f : Choice) → ¬ Solution n (groups l) f)
   window-no-layout-exactly k =
-      let p = rw is-formula at (promises.no-layout-exactly call (λ e. k (reported e))) in
+      let p = rw is-formula at (promises.search-no-layout-exactly call (λ e. k (reported e))) in
       (λ e. p .0 (reports e), λ g. reported (p .1 g))
 
   -- demand 2: "reports a layout when some choice of placements makes exactly one entry true in every group of the whole filing"
   pub window-layout-when-some : ¬ Reports w Stopped → (f : Choice) → Solution n (groups l) f → Reports w LaidOut
-  window-layout-when-some k f g = reported (promises.layout-when-some call (λ e. k (reported e)) f (rw is-formula g))
+  window-layout-when-some k f g = reported (promises.search-layout-when-some call (λ e. k (reported e)) f (rw is-formula g))
 
   -- demand 3: "an accepted search stops exactly when the tree of document 01 needs more splits than allowed"
   pub window-stops-exactly : Reports w Stopped ↔ (b < needs n table)
-  window-stops-exactly = let p = promises.stops-exactly call in (λ e. p .0 (reports e), λ k. reported (p .1 k))
+  window-stops-exactly = let p = promises.search-stops-exactly call in (λ e. p .0 (reports e), λ k. reported (p .1 k))
 
   -- demand 3: "its count is the smaller of what that tree needs and the allowance"
   pub window-count : countOf w ≡ min (needs n table) b
-  window-count = count-is ∙ promises.count-smaller call
+  window-count = count-is ∙ promises.search-count-smaller call
 
   -- "A stop's count is the allowance."
   pub window-stop-count : Reports w Stopped → countOf w ≡ b
-  window-stop-count e = count-is ∙ promises.stop-count call (reports e)
+  window-stop-count e = count-is ∙ promises.search-stop-count call (reports e)
 
   -- demand 3: "For n placements the tree never needs more than the bound N(n)"
   pub window-count-bound : countOf w ≤ N n
-  window-count-bound = rw count-is (promises.count-bound call)
+  window-count-bound = rw count-is (promises.search-count-bound call)
 
   -- "An allowance of N(n), where 32 bits hold it, always finishes."
   pub window-bound-finishes : N n ≤ b → ¬ Reports w Stopped
-  window-bound-finishes k e = promises.bound-finishes call k (reports e)
+  window-bound-finishes k e = promises.search-bound-finishes call k (reports e)
 
   -- "No layout or stopped: the first n of both become 0."
   pub window-others-zero : ¬ Reports w LaidOut → take n (w .plan) ≡ replicate n 0
-  window-others-zero k = rw plan-is (promises.others-zero call (λ e. k (reported e)) .0)
+  window-others-zero k = rw plan-is (promises.search-others-zero call (λ e. k (reported e)) .0)
 
   -- demand 3: "the rest of both lists stays as it was"
   pub window-rest-kept : drop n (w .plan) ≡ drop n plan
-  window-rest-kept = rw plan-is (promises.rest-kept call .0)
+  window-rest-kept = rw plan-is (promises.search-rest-kept call .0)
 
 -- demand 1: "Every table and strip within the limits of document 01, with room lent for the results, is accepted"; "Every other input is refused"
 pub window-accepts : {s : List ℕ} {b : ℕ} {plan old : List ℕ} {w : WindowCall} → Stamped s b plan old w → Bytes s →
@@ -323,9 +315,9 @@ module _ {s s′ : List ℕ} {n : ℕ} {l l′ : List Item} {b b′ : ℕ} {plan
 
   -- "A search that finishes does so at every larger allowance too"
   pub window-alike : b ≤ b′ → ¬ Reports w Stopped → Alike n w w′
-  window-alike k f = alike (rw same (promises.larger-alike (call c) (rw same at (call d)) k (λ e. f (reported c e))))
+  window-alike k f = alike (rw same (promises.search-larger-alike (call c) (rw same at (call d)) k (λ e. f (reported c e))))
 
   -- "all finished searches of one filing are alike in the outcome, the count, the first n of the plan"
   pub window-finished-alike : ¬ Reports w Stopped → ¬ Reports w′ Stopped → Alike n w w′
   window-finished-alike f g =
-      alike (rw same (promises.finished-alike (call c) (rw same at (call d)) (λ e. f (reported c e)) (λ e. g (reported d (rw same e)))))
+      alike (rw same (promises.search-finished-alike (call c) (rw same at (call d)) (λ e. f (reported c e)) (λ e. g (reported d (rw same e)))))

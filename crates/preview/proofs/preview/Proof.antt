@@ -10,7 +10,7 @@ use Rattle.literal.specs.Literal.{maxTable}
 use Rattle.receipt.specs.declared.Checked.the-variants.{Passed}
 use Rattle.theory.specs.Calls.{settleCall}
 use Rattle.theory.specs.Table.{Accepted}
-use Rattle.add.specs.Add.{checkGroup}
+use Rattle.theory.specs.Calls.{checkGroup}
 use Rattle.add.proofs.Growing.{withZero}
 use Rattle.add.proofs.Refusals.{group-fits, room-enough}
 use Rattle.preview.proofs.Calling.{previewed, preview-checked, call-refused, used-inside, grown-accepted, grown-table}
