@@ -3,9 +3,9 @@ use mathlib.Core.Path.{_≡_, refl, ap, sym, _∙_}
 use mathlib.Core.Bool.{Bool, true, false, true≢false}
 use mathlib.Core.Logic.{_↔_, _≢_, ⊎-elim}
 use mathlib.Core.List.{List, [], _∷_, _++_, List·Memᴰ, List·Memᴰ·head, List·Memᴰ·tail, List·Memᴰ·not-nil, List·Memᴰ·cases-cons}
-use Prim.Native.Nat.{ℕ, _≤_, _<_}
+use Prim.Native.Nat.{ℕ, _≤_}
 use native.Mathlib.Omega.{arith}
-use borrow.Author.Tests.{ltb-false, le-ltb, lt-ltb}
+use borrow.Author.Tests.{ltb-false, le-ltb}
 use lib.Dec.{ltb}
 use lib.IntN.{ℤ}
 use Rattle.receipt.specs.declared.Fault.{Fault}
@@ -32,9 +32,6 @@ if-passes false why = (λ e. refl, λ e. refl)
 
 pub most-passes : (k m : ℕ) (why : Fault) → (atMost k m why ≡ Passed) ↔ (k ≤ m)
 most-passes k m why = (λ e. ltb-false m k (if-passes (ltb m k) why .0 e), λ h. rw (le-ltb m k h))
-
-pub most-refuses : (k m : ℕ) (why : Fault) → m < k → atMost k m why ≡ Refused (refusal why 0)
-most-refuses k m why h = rw (lt-ltb m k h)
 
 -- checks in their order -----------------------------------------------------------------------------------------------
 
@@ -149,9 +146,6 @@ module _ {A C : Type 0} {refuse : Refusal → A} {answer : C → A} {turned : Re
       go : (x : Checked) → k ≡ x → NotRefused refuse (answer c) → x ≡ Passed
       go Passed e h = refl
       go (Refused w) e h = absurd (h w (refused-with s w e))
-
-  pub passed-by : {k : Checked} → Refusing refuse answer turned k accepted c → NotRefused refuse (answer c) → k ≡ Passed
-  passed-by s = accepted-when s (λ e. e, λ e. e) .0
 
   -- "a refused call changes no lent element": it is what turned leaves
   pub unchanged : {k : Checked} → Refusing refuse answer turned k accepted c → (w : Refusal) → answer c ≡ refuse w → (v : Refusal) × (k ≡ Refused v) × (c ≡ turned v)

@@ -25,7 +25,7 @@ use Rattle.theory.specs.Formula.{Clause, Formula, clauses, push, Within}
 use Rattle.theory.specs.Table.{closes, zeros, nonzeros, endsOpen, refused, isUnknown, tableUnknown, check, Accepted, WithinLimits}
 
 -- a check that passes passed its first test, and the rest
-pub past : (b : Bool) (r : Refusal) (s : Checked) → cond b (Refused r) s ≡ Passed → (b ≡ false) × (s ≡ Passed)
+past : (b : Bool) (r : Refusal) (s : Checked) → cond b (Refused r) s ≡ Passed → (b ≡ false) × (s ≡ Passed)
 past true r s e = absurd (let z : _≡_ {A = ℕ} 0 1 = cc in omega arith)
 past false r s e = (refl, e)
 
