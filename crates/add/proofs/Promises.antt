@@ -18,10 +18,10 @@ use Rattle.receipt.specs.declared.Fault.the-variants.{TooManyClauses, TooManyLi
 use Rattle.receipt.specs.declared.Refusal.{Refusal}
 use Rattle.theory.specs.Calls.{AddCall, addRefused, isWrong, addedCall, checkGroup, checkAdded, addCall}
 use Rattle.theory.specs.Formula.{clauses}
-use Rattle.theory.specs.Refusing.{NotRefused}
+use Rattle.theory.specs.Refusing.{atMost, NotRefused}
 use Rattle.theory.specs.Table.{zeros, nonzeros, check, Accepted, WithinLimits}
 use Rattle.theory.specs.Unknown.{UnknownInAdd, Names}
-use Rattle.theory.proofs.Refusing.{passed-named, first-named, most-named, number-not-refused, Refusing, accepted-is, refused-with, accepted-when, unchanged, call-names}
+use Rattle.theory.proofs.Refusing.{passed-named, first-named, most-named, number-not-refused, RefusedFirst, first-refuses, Refusing, accepted-is, refused-with, accepted-when, unchanged, call-names}
 use Rattle.theory.proofs.Tables.{accepted-exactly}
 use Rattle.theory.proofs.Unknown.{none-named}
 use Rattle.add.specs.Add.{called}
@@ -84,6 +84,10 @@ module _ {u n : ℕ} {g b : List ℤ} {r : Adding} {b′ : List ℤ} (c : Call u
   add-names = call-names by-checks addingReceipt (λ w. refl)
       (first-named _ _ (group-named u n g b) (λ _. first-named _ _ (most-named (u + length g + 1) (length b) TableShort (λ e. omega arith)) (λ _. passed-named refl)))
       (none-named 15 0 0 (λ e. omega arith))
+
+  -- refused exactly with the first check that refuses: those of the group, and then the room
+  pub add-refused : (w : Refusal) → (r ≡ adding.Refused w) ↔ RefusedFirst (checkGroup u n g b ∷ atMost (u + length g + 1) (length b) TableShort ∷ []) w
+  add-refused w = (λ e. let o = unchanged by-checks w e in let q : o .0 ≡ w = cc (ap (λ (x : AddCall). x .answer) (o .2)) in first-refuses (checkGroup u n g b ∷ atMost (u + length g + 1) (length b) TableShort ∷ []) w .0 (rw q at (o .1)), λ f. refused-with by-checks w (first-refuses (checkGroup u n g b ∷ atMost (u + length g + 1) (length b) TableShort ∷ []) w .1 f))
 
   -- each refusal in its order --------------------------------------------------------------------------------------------
 

@@ -25,7 +25,7 @@ use Rattle.theory.specs.Refusing.{atMost, firstRefusal, NotRefused}
 use Rattle.theory.specs.Table.{zeros, endsOpen, check, Accepted, WithinLimits}
 use Rattle.theory.specs.Unknown.{Encloses, UnknownInTable, Names}
 use Rattle.theory.proofs.Heads.{clauses-zeros, heads-zeros, heads-hold, first-start, next-start, last-end, in-order}
-use Rattle.theory.proofs.Refusing.{most-passes, both-pass, last-passes, table-named, passed-named, first-named, most-named, number-not-refused, Refusing, accepted-is, refused-with, accepted-when, unchanged, call-cases, call-names}
+use Rattle.theory.proofs.Refusing.{most-passes, both-pass, last-passes, table-named, passed-named, first-named, most-named, number-not-refused, RefusedFirst, first-refuses, Refusing, accepted-is, refused-with, accepted-when, unchanged, call-cases, call-names}
 use Rattle.theory.proofs.Tables.{accepted-exactly, accepted-closed}
 use Rattle.theory.proofs.Unknown.{none-named}
 use Rattle.index.specs.Index.{called}
@@ -43,14 +43,14 @@ Acceptable n t hs = WithinLimits n t × (zeros t ≤ length hs)
 
 module _ {n : ℕ} {t : List ℤ} {hs : List Head} {r : Indexing} {hs′ : List Head} (c : Call n t hs r hs′) where
   -- a call by its checks: "Tables: 1, 2, 3, 4, 5, then .. 8 (index)"
-  abbrev checks : Checked
-  checks = firstRefusal (check n t ∷ atMost (zeros t) (length hs) HeadsShort ∷ [])
+  abbrev checks : List Checked
+  checks = check n t ∷ atMost (zeros t) (length hs) HeadsShort ∷ []
 
-  by-checks : Refusing indexing.Refused (λ (s : IndexCall). s .answer) (λ w. indexRefused w hs) checks (indexedCall t hs) (called r hs′)
+  by-checks : Refusing indexing.Refused (λ (s : IndexCall). s .answer) (λ w. indexRefused w hs) (firstRefusal checks) (indexedCall t hs) (called r hs′)
   unfolding indexCall
   by-checks = record { is = c .is; turns = λ w. refl; accepts = λ w e. let z : _≡_ {A = ℕ} 0 1 = cc in omega arith }
 
-  checked : (checks ≡ Passed) ↔ Acceptable n t hs
+  checked : (firstRefusal checks ≡ Passed) ↔ Acceptable n t hs
   checked = both-pass (accepted-exactly n t) (last-passes (most-passes (zeros t) (length hs) HeadsShort))
 
   -- demand 1: "Every table .. within the limits of document 01, with room lent for the results, is accepted"; "Every other input is refused"
@@ -73,6 +73,10 @@ module _ {n : ℕ} {t : List ℤ} {hs : List Head} {r : Indexing} {hs′ : List 
   index-names = call-names by-checks indexingReceipt (λ w. refl)
       (first-named _ _ (table-named n t) (λ _. first-named _ _ (most-named (zeros t) (length hs) HeadsShort (λ e. omega arith)) (λ _. passed-named refl)))
       (none-named 17 0 0 (λ e. omega arith))
+
+  -- refused exactly with the first check that refuses
+  pub index-refused : (w : Refusal) → (r ≡ indexing.Refused w) ↔ RefusedFirst checks w
+  index-refused w = (λ e. let o = unchanged by-checks w e in let q : o .0 ≡ w = cc (ap (λ (x : IndexCall). x .answer) (o .2)) in first-refuses checks w .0 (rw q at (o .1)), λ f. refused-with by-checks w (first-refuses checks w .1 f))
 
   -- 1 to 5 are the table's
   pub index-table-refused : (w : Refusal) → check n t ≡ Refused w → r ≡ indexing.Refused w

@@ -42,7 +42,7 @@ use Rattle.theory.proofs.Listing.{list-layouts}
 use Rattle.theory.proofs.ListingBound.{list-under, list-bound, list-bound-all}
 use Rattle.theory.proofs.Order.{≼-antisym}
 use Rattle.theory.proofs.Rows.{rows-whole, rows-row, rows-zero, bits-same}
-use Rattle.theory.proofs.Refusing.{most-passes, both-pass, last-passes, table-named, passed-named, first-named, most-named, outcome-names, Refusing, accepted-is, refused-with, accepted-when, unchanged, call-names}
+use Rattle.theory.proofs.Refusing.{most-passes, both-pass, last-passes, table-named, passed-named, first-named, most-named, outcome-names, RefusedFirst, first-refuses, Refusing, accepted-is, refused-with, accepted-when, unchanged, call-names}
 use Rattle.theory.proofs.Tables.{accepted-exactly}
 use Rattle.theory.proofs.Tree.{choices-length}
 use Rattle.search.specs.Call as search
@@ -53,14 +53,14 @@ use Rattle.list.specs.Call.{Acceptable, Call, Reports, countOf, placeOf,
 
 -- a call by its checks: "Turned away: 1 to 5, then 27, row room under k times n."
 module _ (n : ℕ) (t : List ℤ) (k b : ℕ) (rows : List ℕ) (s : ListCall) (is : s ≡ listCall n t k b rows) where
-  abbrev checks : Checked
-  checks = firstRefusal (check n t ∷ atMost (k * n) (length rows) RowsShort ∷ [])
+  abbrev checks : List Checked
+  checks = check n t ∷ atMost (k * n) (length rows) RowsShort ∷ []
 
-  by-checks : Refusing listing.Refused (λ (u : ListCall). u .answer) (λ w. listRefused w rows) checks (listedCall n k (list n t k b) rows) s
+  by-checks : Refusing listing.Refused (λ (u : ListCall). u .answer) (λ w. listRefused w rows) (firstRefusal checks) (listedCall n k (list n t k b) rows) s
   unfolding listCall
   by-checks = record { is = is; turns = λ w. refl; accepts = λ w e. let z : _≡_ {A = ℕ} 0 1 = cc in omega arith }
 
-  checked : (checks ≡ Passed) ↔ Acceptable n t k rows
+  checked : (firstRefusal checks ≡ Passed) ↔ Acceptable n t k rows
   checked =
       let p = both-pass (accepted-exactly n t) (last-passes (most-passes (k * n) (length rows) RowsShort)) in
       (λ e. let h = p .0 e in record { table = h .0; room = h .1 }, λ a. p .1 (a .table, a .room))
@@ -86,6 +86,10 @@ module _ (n : ℕ) (t : List ℤ) (k b : ℕ) (rows : List ℕ) (s : ListCall) (
   list-names = call-names by-checks listingReceipt (λ w. refl)
       (first-named _ _ (table-named n t) (λ _. first-named _ _ (most-named (k * n) (length rows) RowsShort (λ e. omega arith)) (λ _. passed-named refl)))
       (outcome-names (list n t k b .outcome) _ _)
+
+  -- refused exactly with the first check that refuses
+  pub list-refused : (w : Refusal) → (s .answer ≡ listing.Refused w) ↔ RefusedFirst checks w
+  list-refused w = (λ e. let o = unchanged by-checks w e in let q : o .0 ≡ w = cc (ap (λ (x : ListCall). x .answer) (o .2)) in first-refuses checks w .0 (rw q at (o .1)), λ f. refused-with by-checks w (first-refuses checks w .1 f))
 
   -- "Turned away: 1 to 5,
   pub list-table-refused : (w : Refusal) → check n t ≡ Refused w → s .answer ≡ listing.Refused w

@@ -28,7 +28,7 @@ use Rattle.theory.specs.State.{initial}
 use Rattle.theory.specs.Table.{zeros, Accepted}
 use Rattle.theory.specs.Unknown.{UnknownInAdd, Names}
 use Rattle.theory.proofs.LastGroup.{last-zeros}
-use Rattle.theory.proofs.Refusing.{most-passes, both-pass, last-passes, passed-named, first-named, most-named, number-not-refused, Refusing, refused-is, refused-with, accepted-when, unchanged, call-names}
+use Rattle.theory.proofs.Refusing.{most-passes, both-pass, last-passes, passed-named, first-named, most-named, number-not-refused, RefusedFirst, first-refuses, Refusing, refused-is, refused-with, accepted-when, unchanged, call-names}
 use Rattle.settle.specs.Settle.{called}
 use Rattle.settle.proofs.Promises as settles
 use Rattle.add.specs.Addable.{Follows}
@@ -62,11 +62,11 @@ module _ (u n : ℕ) (g b c l : List ℤ) (m : List ℕ) (in-buffer : u ≤ leng
 
 -- a call by its checks: "the preview has add's refusals without 23, then 14, 19" --------------------------------------
 
-abbrev checks : ℕ → ℕ → List ℤ → List ℤ → List ℤ → List ℕ → Checked
-checks u n g b l m = firstRefusal (checkGroup u n g b ∷ atMost n (length l) StateShort ∷ atMost n (length m) ReasonsShort ∷ [])
+abbrev checks : ℕ → ℕ → List ℤ → List ℤ → List ℤ → List ℕ → List Checked
+checks u n g b l m = checkGroup u n g b ∷ atMost n (length l) StateShort ∷ atMost n (length m) ReasonsShort ∷ []
 
 -- where Add's checks pass, the table that Add would make passes Settle's
-preview-is : (u n : ℕ) (g b l : List ℤ) (m : List ℕ) → previewCall u n g b l m ≡ unless (checks u n g b l m) (λ w. settleRefused w l m) (settledCall n (clauses (grown u g b)) l m)
+preview-is : (u n : ℕ) (g b l : List ℤ) (m : List ℕ) → previewCall u n g b l m ≡ unless (firstRefusal (checks u n g b l m)) (λ w. settleRefused w l m) (settledCall n (clauses (grown u g b)) l m)
 unfolding settleCall
 preview-is u n g b l m = preview-checked u n g b l m ∙ go (checkGroup u n g b) refl
   where
@@ -75,7 +75,7 @@ preview-is u n g b l m = preview-checked u n g b l m ∙ go (checkGroup u n g b)
     go (Refused w) e = refl
     go Passed e = let a : Accepted n (grown u g b) = grown-accepted u n g b e in rw a
 
-checked : (u n : ℕ) (g b l : List ℤ) (m : List ℕ) → (checks u n g b l m ≡ Passed) ↔ Previewable u n g b l m
+checked : (u n : ℕ) (g b l : List ℤ) (m : List ℕ) → (firstRefusal (checks u n g b l m) ≡ Passed) ↔ Previewable u n g b l m
 checked u n g b l m =
     let k = both-pass (checked-exactly u n g b) (both-pass (most-passes n (length l) StateShort) (last-passes (most-passes n (length m) ReasonsShort))) in (
       λ e. let h = k .0 e in record { used = h .0 .0; follows = h .0 .1; list-room = h .1 .0; reasons-room = h .1 .1 },
@@ -85,7 +85,7 @@ checked u n g b l m =
 -- the promises -----------------------------------------------------------------------------------------------------------
 
 module _ {u n : ℕ} {g b l : List ℤ} {m : List ℕ} {r : Settling} {l′ : List ℤ} {m′ : List ℕ} {b′ : List ℤ} (c : Call u n g b l m r l′ m′ b′) where
-  by-checks : Refusing settling.Refused (λ (s : SettleCall). s .answer) (λ w. settleRefused w l m) (checks u n g b l m) (settledCall n (clauses (grown u g b)) l m) (called r l′ m′)
+  by-checks : Refusing settling.Refused (λ (s : SettleCall). s .answer) (λ w. settleRefused w l m) (firstRefusal (checks u n g b l m)) (settledCall n (clauses (grown u g b)) l m) (called r l′ m′)
   by-checks = record { is = c .is ∙ preview-is u n g b l m; turns = λ w. refl; accepts = settles.settling-answers (settle n (clauses (grown u g b)) initial) }
 
   -- demand 1, of Preview: accepted exactly when the list may follow the used part and both lists have room, whatever room the buffer has
@@ -122,11 +122,15 @@ module _ {u n : ℕ} {g b l : List ℤ} {m : List ℕ} {r : Settling} {l′ : Li
 
   -- "Elements not named are never changed."
   pub preview-rest-kept : (drop n l′ ≡ drop n l) × (drop n m′ ≡ drop n m)
-  preview-rest-kept = go (checks u n g b l m) refl
+  preview-rest-kept = go (firstRefusal (checks u n g b l m)) refl
     where
-      go : (k : Checked) → checks u n g b l m ≡ k → (drop n l′ ≡ drop n l) × (drop n m′ ≡ drop n m)
+      go : (k : Checked) → firstRefusal (checks u n g b l m) ≡ k → (drop n l′ ≡ drop n l) × (drop n m′ ≡ drop n m)
       go (Refused w) e = let q = refused-is by-checks w e in (ap (λ (s : SettleCall). drop n (s .list)) q, ap (λ (s : SettleCall). drop n (s .reasons)) q)
       go Passed e = let p = checked u n g b l m .0 e in settles.settle-rest-kept (preview-settles (p .used) (p .follows))
+
+  -- refused exactly with the first check that refuses
+  pub preview-refused : (w : Refusal) → (r ≡ settling.Refused w) ↔ RefusedFirst (checks u n g b l m) w
+  preview-refused w = (λ e. let o = unchanged by-checks w e in let q : o .0 ≡ w = cc (ap (λ (x : SettleCall). x .answer) (o .2)) in first-refuses (checks u n g b l m) w .0 (rw q at (o .1)), λ f. refused-with by-checks w (first-refuses (checks u n g b l m) w .1 f))
 
   -- "the preview has add's refusals without 23": what Add's checks refuse, the preview refuses
   pub preview-add-refused : (w : Refusal) → checkGroup u n g b ≡ Refused w → r ≡ settling.Refused w

@@ -29,7 +29,7 @@ use Rattle.theory.specs.Strip.{Decoding, readStrip}
 use Rattle.theory.specs.Table.{zeros, nonzeros, check, Accepted, WithinLimits}
 use Rattle.theory.specs.Unknown.{UnknownInTable, Names}
 use Rattle.theory.proofs.Encodings.{saved-length, saved-short}
-use Rattle.theory.proofs.Refusing.{most-passes, first-passed, last-passes, table-named, passed-named, first-named, if-named, most-named, number-not-refused, Refusing, accepted-is, refused-with, accepted-when, unchanged, call-cases, call-names}
+use Rattle.theory.proofs.Refusing.{most-passes, first-passed, last-passes, table-named, passed-named, first-named, if-named, most-named, number-not-refused, RefusedFirst, first-refuses, Refusing, accepted-is, refused-with, accepted-when, unchanged, call-cases, call-names}
 use Rattle.theory.proofs.Tables.{accepted-sizes, accepted-exactly}
 use Rattle.theory.proofs.Unknown.{none-named}
 use Rattle.strip.specs.Decoding.{called as readCalled}
@@ -50,14 +50,14 @@ Savable n t s = WithinLimits n t × Mentioned n t × (savedLength (zeros t) (non
 
 module _ {n : ℕ} {t : List ℤ} {s : List ℕ} {r : Saving} {s′ : List ℕ} (c : Call n t s r s′) where
   -- a call by its checks: "1 to 5 as for any table", 26 "in saving after 5 and before 25"
-  abbrev checks : Checked
-  checks = firstRefusal (saveCheck n t ∷ atMost (length (savedStrip n t)) (length s) StripShort ∷ [])
+  abbrev checks : List Checked
+  checks = saveCheck n t ∷ atMost (length (savedStrip n t)) (length s) StripShort ∷ []
 
-  by-checks : Refusing Refused (λ (k : SaveCall). k .answer) (λ w. saveRefused w s) checks (savedCall (savedStrip n t) s) (called r s′)
+  by-checks : Refusing Refused (λ (k : SaveCall). k .answer) (λ w. saveRefused w s) (firstRefusal checks) (savedCall (savedStrip n t) s) (called r s′)
   unfolding saveCall
   by-checks = record { is = c .is; turns = λ w. refl; accepts = λ w e. let z : _≡_ {A = ℕ} 0 1 = cc in omega arith }
 
-  passes : (checks ≡ checked.Passed) ↔ Savable n t s
+  passes : (firstRefusal checks ≡ checked.Passed) ↔ Savable n t s
   passes = (
     λ e.
         let x = first-passed (saveCheck n t) _ .0 e in
@@ -92,6 +92,10 @@ module _ {n : ℕ} {t : List ℤ} {s : List ℕ} {r : Saving} {s′ : List ℕ} 
       (first-named _ _ (first-named _ _ (table-named n t) (λ _. first-named _ _ (if-named (not (mentionsAll n t)) UnmentionedVariable (λ e. omega arith)) (λ _. passed-named refl)))
       (λ _. first-named _ _ (most-named (length (savedStrip n t)) (length s) StripShort (λ e. omega arith)) (λ _. passed-named refl)))
       (none-named done _ 0 (λ e. omega arith))
+
+  -- refused exactly with the first check that refuses
+  pub save-refused : (w : Refusal) → (r ≡ Refused w) ↔ RefusedFirst checks w
+  save-refused w = (λ e. let o = unchanged by-checks w e in let q : o .0 ≡ w = cc (ap (λ (x : SaveCall). x .answer) (o .2)) in first-refuses checks w .0 (rw q at (o .1)), λ f. refused-with by-checks w (first-refuses checks w .1 f))
 
   -- "Turned away: 1 to 5 as for any table"
   pub save-table-refused : (w : Refusal) → check n t ≡ checked.Refused w → r ≡ Refused w

@@ -36,7 +36,7 @@ use Rattle.theory.proofs.Budget.{limited-empty}
 use Rattle.theory.proofs.Demands as demands
 use Rattle.theory.proofs.Paths.{plan-long, trail-long}
 use Rattle.theory.proofs.Forgetting.{search-forgets}
-use Rattle.theory.proofs.Refusing.{most-passes, both-pass, last-passes, NamedBy, table-named, passed-named, first-named, most-named, outcome-names, Refusing, accepted-is, refused-with, accepted-when, unchanged, call-names}
+use Rattle.theory.proofs.Refusing.{most-passes, both-pass, last-passes, NamedBy, table-named, passed-named, first-named, most-named, outcome-names, RefusedFirst, first-refuses, Refusing, accepted-is, refused-with, accepted-when, unchanged, call-names}
 use Rattle.theory.proofs.Tables.{accepted-exactly}
 use Rattle.search.specs.Call.{Acceptable, Call, Reports, countOf, Alike}
 
@@ -44,14 +44,14 @@ use Rattle.search.specs.Call.{Acceptable, Call, Reports, countOf, Alike}
 
 -- a call by its checks: "Tables: 1, 2, 3, 4, 5, then 6, 7 (search)"
 module _ (n : ℕ) (t : List ℤ) (b : ℕ) (plan : List ℕ) (trail : List ℤ) (s : SearchCall) (is : s ≡ searchCall n t b plan trail) where
-  abbrev checks : Checked
-  checks = firstRefusal (check n t ∷ atMost n (length plan) PlanShort ∷ atMost n (length trail) TrailShort ∷ [])
+  abbrev checks : List Checked
+  checks = check n t ∷ atMost n (length plan) PlanShort ∷ atMost n (length trail) TrailShort ∷ []
 
-  by-checks : Refusing searching.Refused (λ (u : SearchCall). u .answer) (λ w. searchRefused w plan trail) checks (searchedCall n (search n t b) plan trail) s
+  by-checks : Refusing searching.Refused (λ (u : SearchCall). u .answer) (λ w. searchRefused w plan trail) (firstRefusal checks) (searchedCall n (search n t b) plan trail) s
   unfolding searchCall
   by-checks = record { is = is; turns = λ w. refl; accepts = λ w e. let z : _≡_ {A = ℕ} 0 1 = cc in omega arith }
 
-  checked : (checks ≡ Passed) ↔ Acceptable n t plan trail
+  checked : (firstRefusal checks ≡ Passed) ↔ Acceptable n t plan trail
   checked =
       let k = both-pass (accepted-exactly n t) (both-pass (most-passes n (length plan) PlanShort) (last-passes (most-passes n (length trail) TrailShort))) in (
         λ e. let h = k .0 e in record { table = h .0; plan-room = h .1 .0; trail-room = h .1 .1 },
@@ -85,6 +85,10 @@ module _ (n : ℕ) (t : List ℤ) (b : ℕ) (plan : List ℕ) (trail : List ℤ)
   -- A2: 5 is for the first unknown placement, with its group; "for all other numbers it is 0"
   pub search-names : Names (UnknownInTable n t) (searchingReceipt (s .answer))
   search-names = search-names-by (table-named n t)
+
+  -- refused exactly with the first check that refuses
+  pub search-refused : (w : Refusal) → (s .answer ≡ searching.Refused w) ↔ RefusedFirst checks w
+  search-refused w = (λ e. let o = unchanged by-checks w e in let q : o .0 ≡ w = cc (ap (λ (x : SearchCall). x .answer) (o .2)) in first-refuses checks w .0 (rw q at (o .1)), λ f. refused-with by-checks w (first-refuses checks w .1 f))
 
   -- 1 to 5 are the table's
   pub search-table-refused : (w : Refusal) → check n t ≡ Refused w → s .answer ≡ searching.Refused w

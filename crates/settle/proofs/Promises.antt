@@ -32,7 +32,7 @@ use Rattle.theory.specs.Unknown.{UnknownInTable, Names}
 use Rattle.theory.proofs.Heads.{clauses-zeros}
 use Rattle.theory.proofs.Forgetting.{settle-forgets}
 use Rattle.theory.proofs.Reasons.{initial-accounted, reason-open, reason-named, reason-kept}
-use Rattle.theory.proofs.Refusing.{not-passed, most-passes, both-pass, last-passes, table-named, passed-named, first-named, most-named, Refusing, accepted-is, refused-with, accepted-when, unchanged, call-cases, call-names}
+use Rattle.theory.proofs.Refusing.{not-passed, most-passes, both-pass, last-passes, table-named, passed-named, first-named, most-named, RefusedFirst, first-refuses, Refusing, accepted-is, refused-with, accepted-when, unchanged, call-cases, call-names}
 use Rattle.theory.proofs.SettledList.{entry-open, written-at, list-read, dead-end-none, settled-well, settled-remains}
 use Rattle.theory.proofs.Tables.{accepted-exactly, accepted-within}
 use Rattle.theory.proofs.Unknown.{none-named}
@@ -70,10 +70,10 @@ forgotten : (n : ℕ) (t : List ℤ) {o : Explanation} → explanationOf n t ≡
 forgotten n t e = sym (settle-forgets n (clauses t) (unexplained initial)) ∙ ap forget e
 
 -- a call by its checks: "Tables: 1, 2, 3, 4, 5, then .. 14 (settle)"; "19, reason list short, after 14"
-abbrev checks : ℕ → List ℤ → List ℤ → List ℕ → Checked
-checks n t l m = firstRefusal (check n t ∷ atMost n (length l) StateShort ∷ atMost n (length m) ReasonsShort ∷ [])
+abbrev checks : ℕ → List ℤ → List ℤ → List ℕ → List Checked
+checks n t l m = check n t ∷ atMost n (length l) StateShort ∷ atMost n (length m) ReasonsShort ∷ []
 
-checked : (n : ℕ) (t l : List ℤ) (m : List ℕ) → (checks n t l m ≡ Passed) ↔ Acceptable n t l m
+checked : (n : ℕ) (t l : List ℤ) (m : List ℕ) → (firstRefusal (checks n t l m) ≡ Passed) ↔ Acceptable n t l m
 checked n t l m =
     let k = both-pass (accepted-exactly n t) (both-pass (most-passes n (length l) StateShort) (last-passes (most-passes n (length m) ReasonsShort))) in (
       λ e. let h = k .0 e in record { table = h .0; list-room = h .1 .0; reasons-room = h .1 .1 },
@@ -90,7 +90,7 @@ settling-names plain.dead = none-named 10 0 0 (λ e. omega arith)
 settling-names (plain.rest u) = none-named 13 0 0 (λ e. omega arith)
 
 by-checks : {n : ℕ} {t l : List ℤ} {m : List ℕ} {r : Settling} {l′ : List ℤ} {m′ : List ℕ} → Call n t l m r l′ m′ →
-    Refusing settling.Refused (λ (s : SettleCall). s .answer) (λ w. settleRefused w l m) (checks n t l m) (settledCall n (clauses t) l m) (called r l′ m′)
+    Refusing settling.Refused (λ (s : SettleCall). s .answer) (λ w. settleRefused w l m) (firstRefusal (checks n t l m)) (settledCall n (clauses t) l m) (called r l′ m′)
 unfolding settleCall
 by-checks {n} {t} c = record { is = c .is; turns = λ w. refl; accepts = settling-answers (settle n (clauses t) initial) }
 
@@ -155,6 +155,10 @@ module _ {n : ℕ} {t l : List ℤ} {m : List ℕ} {r : Settling} {l′ : List �
   settle-names = call-names (by-checks c) settlingReceipt (λ w. refl)
       (first-named _ _ (table-named n t) (λ _. first-named _ _ (most-named n (length l) StateShort (λ e. omega arith)) (λ _. first-named _ _ (most-named n (length m) ReasonsShort (λ e. omega arith)) (λ _. passed-named refl))))
       (settling-names (settle n (clauses t) initial))
+
+  -- refused exactly with the first check that refuses
+  pub settle-refused : (w : Refusal) → (r ≡ settling.Refused w) ↔ RefusedFirst (checks n t l m) w
+  settle-refused w = (λ e. let o = unchanged (by-checks c) w e in let q : o .0 ≡ w = cc (ap (λ (x : SettleCall). x .answer) (o .2)) in first-refuses (checks n t l m) w .0 (rw q at (o .1)), λ f. refused-with (by-checks c) w (first-refuses (checks n t l m) w .1 f))
 
   -- "Tables: 1, 2, 3, 4, 5, then .. 14 (settle)"
   pub settle-table-refused : (w : Refusal) → check n t ≡ Refused w → r ≡ settling.Refused w

@@ -31,7 +31,7 @@ use Rattle.theory.specs.Refusing.{refusedIf, atMost, firstOf, firstRefusal, Not
 use Rattle.theory.specs.Table.{zeros, nonzeros, endsOpen, check, WithinLimits}
 use Rattle.theory.specs.Unknown.{UnknownInTable, Names}
 use Rattle.theory.proofs.LastGroup.{Last, last-found, last-clauses, last-zeros, last-start, start-inside}
-use Rattle.theory.proofs.Refusing.{not-passed, if-passes, most-passes, both-pass, last-passes, table-named, passed-named, first-named, if-named, most-named, number-not-refused, Refusing, accepted-is, refused-with, accepted-when, unchanged, call-names}
+use Rattle.theory.proofs.Refusing.{not-passed, if-passes, most-passes, both-pass, last-passes, table-named, passed-named, first-named, if-named, most-named, number-not-refused, RefusedFirst, first-refuses, Refusing, accepted-is, refused-with, accepted-when, unchanged, call-names}
 use Rattle.theory.proofs.Tables.{length-elements, accepted-exactly, accepted-closed, accepted-sizes, check-refuses}
 use Rattle.theory.proofs.Unknown.{none-named}
 use Rattle.add.specs.Addable.{Addable}
@@ -108,14 +108,14 @@ module _ {u n : ℕ} {b : List ℤ} {r : TakingBack} {b′ : List ℤ} (c : Call
   abbrev none : Checked
   none = refusedIf (eqb (zeros (take u b)) 0) NoClause
 
-  abbrev checks : Checked
-  checks = firstRefusal (atMost u (length b) UsedLengthWrong ∷ check n (take u b) ∷ none ∷ [])
+  abbrev checks : List Checked
+  checks = atMost u (length b) UsedLengthWrong ∷ check n (take u b) ∷ none ∷ []
 
-  by-checks : Refusing taking-back.Refused (λ (s : TakeBackCall). s .answer) (λ w. takeBackRefused w b) checks (takenBackCall u b) (called r b′)
+  by-checks : Refusing taking-back.Refused (λ (s : TakeBackCall). s .answer) (λ w. takeBackRefused w b) (firstRefusal checks) (takenBackCall u b) (called r b′)
   unfolding takeBackCall
   by-checks = record { is = c .is; turns = λ w. refl; accepts = λ w e. let z : _≡_ {A = ℕ} 0 1 = cc in omega arith }
 
-  checked : (checks ≡ Passed) ↔ Takeable u n b
+  checked : (firstRefusal checks ≡ Passed) ↔ Takeable u n b
   checked =
       let k = both-pass (most-passes u (length b) UsedLengthWrong) (both-pass (accepted-exactly n (take u b)) (last-passes (if-passes (eqb (zeros (take u b)) 0) NoClause))) in (
         λ e. let h = k .0 e in let not-none = eqb-false (zeros (take u b)) 0 (h .1 .1) in record { used = h .0; within = h .1 .0; some = omega (arith, not-none) },
@@ -144,6 +144,10 @@ module _ {u n : ℕ} {b : List ℤ} {r : TakingBack} {b′ : List ℤ} (c : Call
   take-back-names = call-names by-checks takingBackReceipt (λ w. refl)
       (first-named _ _ (most-named u (length b) UsedLengthWrong (λ e. omega arith)) (λ _. first-named _ _ (table-named n (take u b)) (λ _. first-named _ _ (if-named (eqb (zeros (take u b)) 0) NoClause (λ e. omega arith)) (λ _. passed-named refl))))
       (none-named done 0 0 (λ e. omega arith))
+
+  -- refused exactly with the first check that refuses
+  pub take-back-refused : (w : Refusal) → (r ≡ taking-back.Refused w) ↔ RefusedFirst checks w
+  take-back-refused w = (λ e. let o = unchanged by-checks w e in let q : o .0 ≡ w = cc (ap (λ (x : TakeBackCall). x .answer) (o .2)) in first-refuses checks w .0 (rw q at (o .1)), λ f. refused-with by-checks w (first-refuses checks w .1 f))
 
   -- "taking back has 12,
   pub take-back-used-wrong : length b < u → r ≡ taking-back.Refused (refusal UsedLengthWrong 0)
@@ -175,7 +179,7 @@ module _ {u n : ℕ} {b : List ℤ} {r : TakingBack} {b′ : List ℤ} (c : Call
           by-test true e q = eqb-true (zeros (take u b)) 0 e
           by-test false e q = absurd (not-passed (sym q))
 
-      found : checks ≡ Refused (refusal NoClause 0) → (u ≡ 0) × (n ≤ maxVariables)
+      found : firstRefusal checks ≡ Refused (refusal NoClause 0) → (u ≡ 0) × (n ≤ maxVariables)
       found = by-length (ltb (length b) u) refl
         where
           by-length : (p : Bool) → ltb (length b) u ≡ p → firstOf (refusedIf p UsedLengthWrong) (firstOf (check n (take u b)) (firstOf none Passed)) ≡ Refused (refusal NoClause 0) → (u ≡ 0) × (n ≤ maxVariables)
