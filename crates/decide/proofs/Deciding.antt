@@ -11,7 +11,7 @@ use lib.Dec.{eqb}
 use lib.ListN.{getD, set, length}
 use Rattle.general.specs.Booleans.{bit}
 use Rattle.general.specs.Bits.{bit-le}
-use Rattle.literal.specs.Literal.{FALSE, var, opposite, codeOf, literalAt, maxVariables, maxTable}
+use Rattle.literal.specs.Literal.{FALSE, var, opposite, codeOf, literalAt, maxVariables, maxTable, variables}
 use Rattle.literal.proofs.Codes.{codeOf-literalAt, var-at}
 use Rattle.theory.specs.State.{replace, assign}
 use Rattle.theory.proofs.Literals.{of-variable}
@@ -72,10 +72,10 @@ module _ {ix st wk : List ℕ} {x : ℕ} (d : Decidable ix st wk x) (st′ wk′
   s : Sound ix st wk
   s = d .sound
 
-  long : length (tallyOf st .values) ≡ 257
+  long : length (tallyOf st .values) ≡ variables
   long = s .exact .long-values
 
-  long′ : length (tallyOf st′ .values) ≡ 257
+  long′ : length (tallyOf st′ .values) ≡ variables
   long′ = t .exact .long-values
 
   apart : 0 ≡ x / 2 → ⊥
@@ -153,7 +153,7 @@ module _ {ix st wk : List ℕ} {x : ℕ} {u : Tally} {m : Notes} {p : ℕ} (t : 
             arith,
             t .taken .paid,
             t .asked .sound .todo-room,
-            load-set (width ix) (u .values) p to (omega (arith, inside, t .round .long)) small (omega (arith, of, opened)) 257 (omega (arith, inside)),
+            load-set (width ix) (u .values) p to (omega (arith, inside, t .round .long)) small (omega (arith, of, opened)) variables (omega (arith, inside)),
           );
     }
 
@@ -163,7 +163,7 @@ module _ {ix st wk : List ℕ} {x : ℕ} {u : Tally} {m : Notes} {p : ℕ} (t : 
           rw (← agree-state x (tallyOf st .values) w (rw set-to (agrees opened (t .round) apart′ to code)))
           (dead-stays (literalAt x) (omega (arith, var-at x, opened)) ix (stateOf w) d)
 
-      pub turning-falls : size (x / 2) w 257 < size (x / 2) (u .values) 257
+      pub turning-falls : size (x / 2) w variables < size (x / 2) (u .values) variables
       turning-falls = rw set-to (falls opened (t .round) apart′ to code)
 
     module _ (u′ : Tally) (set-to : u′ .values ≡ set (u .values) p to) where

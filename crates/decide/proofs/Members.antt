@@ -14,7 +14,7 @@ use Rattle.general.specs.Bits.{bit-le}
 use Rattle.general.specs.Times.{times}
 use Rattle.literal.specs.declared.Literal.{Literal}
 use Rattle.literal.specs.declared.Literal.the-variants.{Pos, Neg}
-use Rattle.literal.specs.Literal.{TRUE, FALSE, var, opposite, same, isOpen, literalAt, maxVariables}
+use Rattle.literal.specs.Literal.{TRUE, FALSE, var, opposite, same, isOpen, literalAt, maxVariables, variables, maxClauses}
 use Rattle.literal.proofs.Codes.{literalAt-codeOf, var-at}
 use Rattle.theory.specs.Formula.{Clause}
 use Rattle.theory.specs.State.{State, value, replace, assign}
@@ -105,7 +105,7 @@ module _ (s u : State) (p : ℕ) (b : Bool) (opened : 0 < var (s p)) (is : u p �
 
 -- the array -------------------------------------------------------------------------------------------------------
 
-module _ (v : List ℕ) (p to : ℕ) (known : p ≤ maxVariables) (long : length v ≡ 257) where
+module _ (v : List ℕ) (p to : ℕ) (known : p ≤ maxVariables) (long : length v ≡ variables) where
   set-here : stateOf (set v p to) p ≡ literalAt to
   set-here = stateOf-inside (set v p to) p known ∙ rw (getD-set-same v p to 0 (omega arith))
 
@@ -128,7 +128,7 @@ abbrev pub Lags : (ix v : List ℕ) → ℕ → (k rest : List ℕ) → Type 0
 Lags ix v to k rest = Lagging (clauseCount ix) (λ g. opensOf (stateOf v) (clauseOf ix g)) (λ g. truesOf (stateOf v) (clauseOf ix g)) to k rest
 
 module _ {ix : List ℕ} {t : Tally} {n : Notes} {p to : ℕ} (m : Membering ix t n p to) where
-  long : length (t .values) ≡ 257
+  long : length (t .values) ≡ variables
   long = m .exact .long-values
 
   abbrev after : State
@@ -160,7 +160,7 @@ module _ {ix : List ℕ} {t : Tally} {n : Notes} {p to : ℕ} (m : Membering ix 
     low = m .exact .low;
   }
 
-pub finished : (ix v k : List ℕ) (to : ℕ) → length v ≡ 257 → length k ≡ 512 → Lags ix v to k [] → Exact ix v k
+pub finished : (ix v k : List ℕ) (to : ℕ) → length v ≡ variables → length k ≡ maxClauses → Lags ix v to k [] → Exact ix v k
 unfolding times
 finished ix v k to lv lk l = record { long-values = lv; long-counts = lk; is = λ g h. omega (arith, l .sum g h); low = l .low }
 

@@ -10,7 +10,7 @@ use lib.Dec.{ltb, eqb}
 use lib.ListN.{getD, set, length, length-set, length-take}
 use Rattle.general.specs.Bits.{bit-le}
 use Rattle.general.specs.Lists.{from}
-use Rattle.literal.specs.Literal.{maxVariables, maxLiterals, maxTable}
+use Rattle.literal.specs.Literal.{maxVariables, maxLiterals, maxTable, variables, maxClauses}
 use Rattle.state.specs.State.{stateOf}
 use Rattle.occurrences.specs.Index.{Indexed, clauseCount, occurrenceAt, firstAt, width}
 use Rattle.occurrences.proofs.Ends.{occurrence-inside}
@@ -24,7 +24,7 @@ use Rattle.decide.proofs.Lagging.{positive, short, turned, dead-none, d
 use Rattle.decide.proofs.Noting.{adding-none, adding-trans, adding-valued, adding-one}
 use Rattle.decide.proofs.Members.{Lags, begun, finished}
 
-pub todo-long : {wk : List ℕ} → Whole wk → length (notesOf wk .todo) ≡ 2560
+pub todo-long : {wk : List ℕ} → Whole wk → length (notesOf wk .todo) ≡ maxTable
 todo-long {wk} w = simp length-take (omega (arith, w .long))
 
 -- variable p has become `to` in t; its occurrences from first to j are taken in
@@ -41,8 +41,8 @@ pub record Walking (ix : List ℕ) (t : Tally) (n : Notes) (p to first last : �
   pub adding : Adding ix t n u m
   pub paid : m .todoEnd + first ≤ n .todoEnd + j
   pub valued : u .values ≡ t .values
-  pub long : length (u .counts) ≡ 512
-  pub wide : length (u .values) ≡ 257
+  pub long : length (u .counts) ≡ maxClauses
+  pub wide : length (u .values) ≡ variables
 
 pub walk-begins : {ix : List ℕ} {t : Tally} {n : Notes} {p to : ℕ} (m : Membering ix t n p to) (first last : ℕ) → first ≡ firstAt ix p → last ≡ firstAt ix (p + 1) →
     (u : Tally) → u ≡ withValue p to t → Walking ix u n p to first last u n first
@@ -89,7 +89,7 @@ module _ {ix : List ℕ} {t : Tally} {n : Notes} {p to first last : ℕ} {u : Ta
       not-two = short (q .small) (u .counts) o _ next inside
 
       module _ (c : ℕ) (count : c ≡ recountOf (getD (u .counts) (o / 2) 0) o to) where
-        pub walk-goes : (c ≡ 0 → ⊥) → c < twoTrue → length (m .todo) ≡ 2560 → (k : ℕ) → k ≡ noting c o to → (u′ : Tally) → u′ ≡ withCount (o / 2) c u →
+        pub walk-goes : (c ≡ 0 → ⊥) → c < twoTrue → length (m .todo) ≡ maxTable → (k : ℕ) → k ≡ noting c o to → (u′ : Tally) → u′ ≡ withCount (o / 2) c u →
             (m′ : Notes) → m′ ≡ withTodoEnd (m .todoEnd + k) (withTodo (m .todoEnd) (o / 2) m) → Walking ix t n p to first last u′ m′ (j + 1)
         walk-goes some h roomy k e u′ eu m′ em = rw (eu, em) (record {
           index = q .index;
@@ -140,7 +140,7 @@ module _ {ix : List ℕ} {v : Tally} {n : Notes} {p to first last : ℕ} {t u : 
       exact = walk-ends q h;
       adding = adding-valued v p to (rw et at (q .adding));
       paid =
-          let e = load-set (width ix) (v .values) p to (omega (arith, a .known, a .exact .long-values)) (a .constant) (a .opened) 257 (omega (arith, a .known)) in
+          let e = load-set (width ix) (v .values) p to (omega (arith, a .known, a .exact .long-values)) (a .constant) (a .opened) variables (omega (arith, a .known)) in
           rw valued (omega (arith, q .paid, q .reached, q .begins, e, q .starts, q .stops));
     },
   )

@@ -15,7 +15,7 @@ use Rattle.general.specs.Bits.{bit-le, bit-true}
 use Rattle.general.specs.Times.{times}
 use Rattle.general.specs.Repeats.{times-cons}
 use Rattle.general.specs.Sums.{sum, times-here, times-other, sum-distinct, length-distinct}
-use Rattle.literal.specs.Literal.{maxVariables, maxLiterals}
+use Rattle.literal.specs.Literal.{maxVariables, maxLiterals, variables}
 use Rattle.occurrences.specs.Index.{firstAt, width}
 use Rattle.tally.specs.Tally.{tallyOf, valueIn, linkIn}
 use Rattle.tally.specs.Ring.{Chain, Ring}
@@ -66,9 +66,9 @@ module _ {ix st : List ℕ} {r : ℕ} (a : AtRoot ix st r) where
 class-width : {ix st : List ℕ} {r : ℕ} (a : AtRoot ix st r) → sum (width ix) (r ∷ others a) ≤ maxLiterals
 class-width {ix} {st} {r} a = omega (
   arith,
-  sum-distinct (width ix) (firstAt ix) (r ∷ others a) 257 (λ k h. rw (← add-one k) (omega (arith, a .index .rising k (omega arith)))) (class-once a)
+  sum-distinct (width ix) (firstAt ix) (r ∷ others a) variables (λ k h. rw (← add-one k) (omega (arith, a .index .rising k (omega arith)))) (class-once a)
       (λ q h. omega (arith, class-inside a q h)),
-  a .index .ends 257 (omega arith),
+  a .index .ends variables (omega arith),
 )
 
 -- rest and then r are still to be visited; the wide clauses of what else is of the class are done, and there is room for those to come
@@ -78,7 +78,7 @@ pub record Ahead (ix st : List ℕ) (r : ℕ) (Done : ℕ → Type 0) (spent p :
   pub known : p ≤ maxVariables
   pub within : (q : ℕ) → 0 < times q rest → (q ≤ maxVariables) × (valueIn st q / 2 ≡ r)
   pub once : times r rest ≡ 0
-  pub short : length rest ≤ 257
+  pub short : length rest ≤ variables
   pub room : spent + (width ix r + sum (width ix) rest) ≤ maxLiterals
   pub done : (q g : ℕ) → valueIn st q / 2 ≡ r → WideIn ix st g → Written ix q g → Done g ⊎ ((q ≡ r) ⊎ (0 < times q rest))
 
@@ -94,7 +94,7 @@ ahead-begins {r = r} a = record {
   known = a .inside;
   within = λ q h. let m : 0 < times q (r ∷ others a) = omega (arith, times-cons q r (others a)) in (class-inside a q m, of-class a q m);
   once = first-once (ring a .arc);
-  short = omega (arith, length-distinct (r ∷ others a) 257 (class-once a) (λ q h. omega (arith, class-inside a q h)));
+  short = omega (arith, length-distinct (r ∷ others a) variables (class-once a) (λ q h. omega (arith, class-inside a q h)));
   room = omega (arith, class-width a);
   done = λ q g e w i. inr (times-cases q r (others a) (in-class a q e));
 }
@@ -138,14 +138,14 @@ module _ {ix st : List ℕ} {r : ℕ} {Done : ℕ → Type 0} {spent p : ℕ} (a
     once-goes : times r left ≡ 0
     once-goes = omega (arith, rw (rest-goes .1) at (o .once), times-cons r n left)
 
-    short-goes : suc (length left) ≤ 257
+    short-goes : suc (length left) ≤ variables
     short-goes = rw (rest-goes .1) at (o .short)
 
-    pub falls : dist (tallyOf st .links) r 257 n < dist (tallyOf st .links) r 257 p
+    pub falls : dist (tallyOf st .links) r variables n < dist (tallyOf st .links) r variables p
     falls = omega (
       arith,
-      dist-chain (tallyOf st .links) r 257 p (o .rest) (o .chain) (o .once) (o .short),
-      dist-chain (tallyOf st .links) r 257 n left chain-goes once-goes (omega (arith, short-goes)),
+      dist-chain (tallyOf st .links) r variables p (o .rest) (o .chain) (o .once) (o .short),
+      dist-chain (tallyOf st .links) r variables n left chain-goes once-goes (omega (arith, short-goes)),
       ap length (rest-goes .1),
     )
 

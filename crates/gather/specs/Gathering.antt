@@ -6,7 +6,7 @@ use Prim.Native.Nat.{ℕ, _+_, _*_, _≤_, _<_}
 use lib.Dec.{ltb}
 use lib.ListN.{getD, length}
 use Rattle.general.specs.Times.{times}
-use Rattle.literal.specs.Literal.{maxVariables, maxLiterals}
+use Rattle.literal.specs.Literal.{maxVariables, maxLiterals, variables}
 use Rattle.theory.specs.State.{standing}
 use Rattle.theory.proofs.Counts.{mentions, Wide}
 use Rattle.occurrences.specs.Index.{Indexed, clauseCount, clauseOf, occurrences, width}
@@ -23,7 +23,7 @@ isWide k = ltb 2 k && ltb k oneTrue
 pub record AtRoot (ix st : List ℕ) (r : ℕ) : Type 0 where
   pub index : Indexed ix
   pub exact : Exact ix (tallyOf st .values) (tallyOf st .counts)
-  pub linked : length (tallyOf st .links) ≡ 257
+  pub linked : length (tallyOf st .links) ≡ variables
   pub classes : Classes (tallyOf st .values) (tallyOf st .links)
   pub opened : 0 < r
   pub inside : r ≤ maxVariables

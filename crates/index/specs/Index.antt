@@ -1,9 +1,10 @@
 -- How code makes the heads of a table: one group after the other. And a call of Index: its answer, and the list after it.
 use mathlib.Core.Bool.{cond}
 use mathlib.Core.List.{List, [], _∷_, _++_}
-use Prim.Native.Nat.{ℕ, zero, suc, _+_}
+use Prim.Native.Nat.{ℕ, zero, suc, _+_, min}
 use lib.IntN.{ℤ}
 use lib.ListN.{take, drop}
+use Rattle.literal.specs.Literal.{maxClauses}
 use Rattle.receipt.specs.declared.Fault.the-variants.{HeadsShort}
 use Rattle.receipt.specs.declared.Refusal.{Refusal}
 use Rattle.receipt.specs.declared.Checked.{Checked}
@@ -44,5 +45,9 @@ abbrev pub called : Indexing → List Head → IndexCall
 called r hs = record { answer = r; heads = hs }
 
 -- the first `room` heads of an array are lent, and the others stay
+abbrev pub indexFirst : ℕ → List ℤ → List Head → ℕ → IndexCall
+indexFirst n t hs room = let c = indexCall n t (take room hs) in called (c .answer) (c .heads ++ drop room hs)
+
+-- for any room, in an array of as many heads as a table has groups at most
 abbrev pub indexArray : ℕ → List ℤ → List Head → ℕ → IndexCall
-indexArray n t hs room = let c = indexCall n t (take room hs) in called (c .answer) (c .heads ++ drop room hs)
+indexArray n t hs room = indexFirst n t hs (min room maxClauses)

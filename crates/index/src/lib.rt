@@ -3,7 +3,7 @@ ghost use mathlib.Core.Path.{_≡_};
 ghost use Prim.Native.Nat.{_≤_};
 ghost use Rattle.literal.specs.Literal.{maxClauses};
 ghost use Rattle.theory.specs.Calls.{indexCall};
-ghost use Rattle.index.specs.Index.{nextHead, dueRefused, dueOf, called, indexArray};
+ghost use Rattle.index.specs.Index.{nextHead, dueRefused, dueOf, called, indexFirst, indexArray};
 use literal::Literal;
 use receipt::Checked;
 use receipt::Fault;
@@ -99,17 +99,28 @@ pub struct Filled {
     pub heads: [Head; Literal::MAX_CLAUSES],
 }
 
-// Index of an array by value, the first `room` heads of which are lent: whoever calls it needs no walk by hand. No table has more groups than it has heads.
+// Index of an array by value, the first `room` heads of which are lent.
+fn index_first(table: &[i16], n: usize, heads: [Head; Literal::MAX_CLAUSES], room: usize) -> Filled
+    requires { ⌜ room ≤ maxClauses ⌝ }
+    ensures { λ r. ⌜ called (r .answer) (r .heads) ≡ indexFirst n (now (table .entry)) heads room ⌝ }
+{
+    let mut all = heads;
+    let answer = index(table, n, &mut all[..room]);
+    Filled { answer, heads: all }
+}
+
+// The same for any room: no table has more groups than the array has heads. Whoever calls it needs no walk by hand.
 pub fn index_array(
     table: &[i16],
     n: usize,
     heads: [Head; Literal::MAX_CLAUSES],
     room: usize,
 ) -> Filled
-    requires { ⌜ room ≤ maxClauses ⌝ }
     ensures { λ r. ⌜ called (r .answer) (r .heads) ≡ indexArray n (now (table .entry)) heads room ⌝ }
 {
-    let mut all = heads;
-    let answer = index(table, n, &mut all[..room]);
-    Filled { answer, heads: all }
+    if room < Literal::MAX_CLAUSES {
+        index_first(table, n, heads, room)
+    } else {
+        index_first(table, n, heads, Literal::MAX_CLAUSES)
+    }
 }

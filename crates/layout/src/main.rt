@@ -1,7 +1,9 @@
 // The layout program: a strip from standard input, and what the search of it gives to standard output.
 
 fn main() {
-    if stream::explained(b"layout: reads a strip from standard input and prints its first layout. It takes no arguments.\n") {
+    if stream::explained(
+        b"layout: reads a strip from standard input and prints its first layout. It takes no arguments.\n",
+    ) {
         return;
     }
     let mut strip = [0u8; report::INPUT];

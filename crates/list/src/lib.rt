@@ -148,7 +148,7 @@ fn split(
         };
     }
     let mut second = *state;
-    let x = Literal::Pos(p.0);
+    let x = Literal::new(p, true);
     let out = side::begin(index, state, work, x.code());
     let a = settle_and_decide(
         index,

@@ -1,7 +1,7 @@
 -- Literals (document 01's entries): Pos p says that variable p (its placement) is taken, Neg p that it is left out.
 -- Variables of a formula are counted from 1. Variable 0 is the constant: Pos 0 is always true and Neg 0 always false.
 use Prim.Native.Nat.{ℕ, zero, suc, _+_, _*_, _/_, _%_}
-use mathlib.Core.Bool.{Bool, true, false, cond}
+use mathlib.Core.Bool.{Bool, true, false}
 use lib.Dec.{eqb, ltb}
 use lib.IntN.{ℤ, negsuc, pos}
 use Rattle.literal.specs.declared.ClauseNumber.{ClauseNumber}
@@ -49,7 +49,7 @@ codeOf (Neg p) = 2 * p + 1
 
 -- and back
 unfoldable pub literalAt : ℕ → Literal
-literalAt c = cond (eqb (c % 2) 0) (Pos (c / 2)) (Neg (c / 2))
+literalAt c = literal (c / 2) (eqb (c % 2) 0)
 
 -- an element of a table as a literal: +p, -p
 abbrev pub literalOf : ℤ → Literal
@@ -76,6 +76,10 @@ maxLiterals = 2048
 abbrev pub maxTable : ℕ
 maxTable = maxLiterals + maxClauses
 
--- how many literals code can index: those of the constant and of every variable
+-- the constant and every variable
+abbrev pub variables : ℕ
+variables = maxVariables + 1
+
+-- how many literals code can index
 abbrev pub codes : ℕ
-codes = 2 * (maxVariables + 1)
+codes = 2 * variables

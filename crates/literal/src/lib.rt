@@ -1,6 +1,6 @@
 // Placement numbers, group numbers and the entries of a table, as literals.
 ghost use mathlib.Core.Path.{_≡_};
-ghost use Prim.Native.Nat.{_≤_, _<_};
+ghost use Prim.Native.Nat.{_<_};
 ghost use lib.IntN.{natAbs, pos};
 ghost use lib.ListN.{length, getD};
 ghost use Rattle.literal.specs.Literal.{literal, var, isOpen, opposite, same, literalOf, entryOf, codeOf, literalAt};
@@ -29,12 +29,12 @@ impl Literal {
     pub const MAX_LITERALS: usize = 2048;
 
     // The elements of the longest table: every literal, and a 0 for every clause.
-    pub const MAX_TABLE: usize = 2560;
+    pub const MAX_TABLE: usize = Literal::MAX_LITERALS + Literal::MAX_CLAUSES;
 
     // The constant and every variable; each has two codes.
-    pub const VARIABLES: usize = 257;
+    pub const VARIABLES: usize = Literal::MAX_VARIABLES + 1;
 
-    pub const CODES: usize = 514;
+    pub const CODES: usize = 2 * Literal::VARIABLES;
 
     pub fn new(variable: Variable, taken: bool) -> Literal
         ensures { λ r. ⌜ r ≡ literal (variable .0) taken ⌝ }
@@ -104,22 +104,14 @@ impl Literal {
     pub fn of_code(code: u16) -> Literal
         ensures { λ r. ⌜ r ≡ literalAt code ⌝ }
     {
-        if code % 2 == 0 {
-            Literal::Pos(code / 2)
-        } else {
-            Literal::Neg(code / 2)
-        }
+        Literal::new(Variable(code / 2), code % 2 == 0)
     }
 
     // An element of a table; a 0, which closes a group, reads as the constant.
     pub fn of_entry(entry: i16) -> Literal
         ensures { λ r. ⌜ r ≡ literalOf entry ⌝ }
     {
-        if entry < 0 {
-            Literal::Neg(size(entry))
-        } else {
-            Literal::Pos(size(entry))
-        }
+        Literal::new(Variable(size(entry)), 0 <= entry)
     }
 
     // The signed number as a table and a trail write it; a constant is 0.

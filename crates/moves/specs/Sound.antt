@@ -3,21 +3,21 @@ use mathlib.Core.Path.{_≡_}
 use mathlib.Core.List.{List}
 use Prim.Native.Nat.{ℕ, _+_, _≤_, _<_}
 use lib.ListN.{getD, length}
-use Rattle.literal.specs.Literal.{maxVariables, maxTable}
+use Rattle.literal.specs.Literal.{maxVariables, maxTable, variables}
 use Rattle.occurrences.specs.Index.{Indexed, clauseCount}
 use Rattle.tally.specs.Tally.{tallyOf}
 use Rattle.tally.specs.Ring.{Classes}
 use Rattle.tally.specs.Counts.{Exact, room, roots}
-use Rattle.notes.specs.Notes.{notesOf, Whole}
+use Rattle.notes.specs.Notes.{notesOf, Whole, maxRoots}
 
 -- the index is right, the counts are the state's, the classes are rings, and the lists have room for every note and tie that may still come
 pub record Sound (ix st wk : List ℕ) : Type 0 where
   pub index : Indexed ix
   pub exact : Exact ix (tallyOf st .values) (tallyOf st .counts)
-  pub linked : length (tallyOf st .links) ≡ 257
+  pub linked : length (tallyOf st .links) ≡ variables
   pub classes : Classes (tallyOf st .values) (tallyOf st .links)
   pub whole : Whole wk
   pub todo-room : notesOf wk .todoEnd + room ix (tallyOf st .values) ≤ maxTable
-  pub roots-room : notesOf wk .rootsEnd + roots (tallyOf st .values) maxVariables ≤ 512
+  pub roots-room : notesOf wk .rootsEnd + roots (tallyOf st .values) maxVariables ≤ maxRoots
   pub todo-inside : (i : ℕ) → i < notesOf wk .todoEnd → getD (notesOf wk .todo) i 0 < clauseCount ix
   pub roots-inside : (i : ℕ) → i < notesOf wk .rootsEnd → (0 < getD (notesOf wk .roots) i 0) × (getD (notesOf wk .roots) i 0 ≤ maxVariables)

@@ -6,7 +6,8 @@ use native.Mathlib.Omega.{arith}
 use lib.ListN.{getD, set, length-set}
 use lib.Seq.{getD-set-same, getD-set-other}
 use Rattle.general.specs.Parts.{part-at, part-set, part-before, part-after}
-use Rattle.notes.specs.Notes.{Notes, notesOf, withTodo, withTodoEnd, withRoot, withRootsEnd, withGathered, Whole}
+use Rattle.literal.specs.Literal.{maxTable, maxLiterals}
+use Rattle.notes.specs.Notes.{Notes, notesOf, withTodo, withTodoEnd, withRoot, withRootsEnd, withGathered, Whole, maxRoots, todoEndAt, rootsFrom, rootsEndAt, gatheredFrom}
 
 same-parts : {a b : Notes} → a .todo ≡ b .todo → a .todoEnd ≡ b .todoEnd → a .roots ≡ b .roots → a .rootsEnd ≡ b .rootsEnd → a .gathered ≡ b .gathered → a ≡ b
 same-parts {a} {b} t m r n g =
@@ -17,14 +18,14 @@ same-parts {a} {b} t m r n g =
     ap (λ (l : List ℕ). record { todo = b .todo; todoEnd = b .todoEnd; roots = b .roots; rootsEnd = b .rootsEnd; gathered = l }) g
 
 module _ (wk : List ℕ) where
-  pub reads-todo : (i : ℕ) → i < 2560 → getD wk i 0 ≡ getD (notesOf wk .todo) i 0
-  reads-todo i h = let e : 0 + i ≡ i = omega arith in sym (rw e at (part-at 0 2560 wk i 0 h))
+  pub reads-todo : (i : ℕ) → i < maxTable → getD wk i 0 ≡ getD (notesOf wk .todo) i 0
+  reads-todo i h = let e : 0 + i ≡ i = omega arith in sym (rw e at (part-at 0 maxTable wk i 0 h))
 
-  pub reads-root : (i : ℕ) → i < 512 → getD wk (2561 + i) 0 ≡ getD (notesOf wk .roots) i 0
-  reads-root i h = sym (part-at 2561 512 wk i 0 h)
+  pub reads-root : (i : ℕ) → i < maxRoots → getD wk (rootsFrom + i) 0 ≡ getD (notesOf wk .roots) i 0
+  reads-root i h = sym (part-at rootsFrom maxRoots wk i 0 h)
 
-  pub reads-gathered : (i : ℕ) → i < 2048 → getD wk (3074 + i) 0 ≡ getD (notesOf wk .gathered) i 0
-  reads-gathered i h = sym (part-at 3074 2048 wk i 0 h)
+  pub reads-gathered : (i : ℕ) → i < maxLiterals → getD wk (gatheredFrom + i) 0 ≡ getD (notesOf wk .gathered) i 0
+  reads-gathered i h = sym (part-at gatheredFrom maxLiterals wk i 0 h)
 
   module _ (whole : Whole wk) (x : ℕ) where
     -- what is written at j is at no other index
@@ -34,23 +35,23 @@ module _ (wk : List ℕ) where
     pub writes-whole : (j : ℕ) → Whole (set wk j x)
     writes-whole j = record { long = length-set wk j x ∙ whole .long }
 
-    pub writes-todo : (i : ℕ) → i < 2560 → notesOf (set wk i x) ≡ withTodo i x (notesOf wk)
+    pub writes-todo : (i : ℕ) → i < maxTable → notesOf (set wk i x) ≡ withTodo i x (notesOf wk)
     writes-todo i h = let e : 0 + i ≡ i = omega arith in
-        same-parts (rw e at (part-set 0 2560 wk i x)) (other i 2560 (λ q. omega arith)) (part-before 2561 512 wk i x (omega arith)) (other i 3073 (λ q. omega arith))
-        (part-before 3074 2048 wk i x (omega arith))
+        same-parts (rw e at (part-set 0 maxTable wk i x)) (other i todoEndAt (λ q. omega arith)) (part-before rootsFrom maxRoots wk i x (omega arith)) (other i rootsEndAt (λ q. omega arith))
+        (part-before gatheredFrom maxLiterals wk i x (omega arith))
 
-    pub writes-todo-end : notesOf (set wk 2560 x) ≡ withTodoEnd x (notesOf wk)
-    writes-todo-end = same-parts (part-after 0 2560 wk 2560 x (omega arith)) (getD-set-same wk 2560 x 0 (omega (arith, whole .long))) (part-before 2561 512 wk 2560 x (omega arith))
-        (other 2560 3073 (λ q. omega arith)) (part-before 3074 2048 wk 2560 x (omega arith))
+    pub writes-todo-end : notesOf (set wk todoEndAt x) ≡ withTodoEnd x (notesOf wk)
+    writes-todo-end = same-parts (part-after 0 maxTable wk todoEndAt x (omega arith)) (getD-set-same wk todoEndAt x 0 (omega (arith, whole .long))) (part-before rootsFrom maxRoots wk todoEndAt x (omega arith))
+        (other todoEndAt rootsEndAt (λ q. omega arith)) (part-before gatheredFrom maxLiterals wk todoEndAt x (omega arith))
 
-    pub writes-root : (i : ℕ) → i < 512 → notesOf (set wk (2561 + i) x) ≡ withRoot i x (notesOf wk)
-    writes-root i h = same-parts (part-after 0 2560 wk (2561 + i) x (omega arith)) (other (2561 + i) 2560 (λ q. omega arith)) (part-set 2561 512 wk i x)
-        (other (2561 + i) 3073 (λ q. omega arith)) (part-before 3074 2048 wk (2561 + i) x (omega arith))
+    pub writes-root : (i : ℕ) → i < maxRoots → notesOf (set wk (rootsFrom + i) x) ≡ withRoot i x (notesOf wk)
+    writes-root i h = same-parts (part-after 0 maxTable wk (rootsFrom + i) x (omega arith)) (other (rootsFrom + i) todoEndAt (λ q. omega arith)) (part-set rootsFrom maxRoots wk i x)
+        (other (rootsFrom + i) rootsEndAt (λ q. omega arith)) (part-before gatheredFrom maxLiterals wk (rootsFrom + i) x (omega arith))
 
-    pub writes-roots-end : notesOf (set wk 3073 x) ≡ withRootsEnd x (notesOf wk)
-    writes-roots-end = same-parts (part-after 0 2560 wk 3073 x (omega arith)) (other 3073 2560 (λ q. omega arith)) (part-after 2561 512 wk 3073 x (omega arith))
-        (getD-set-same wk 3073 x 0 (omega (arith, whole .long))) (part-before 3074 2048 wk 3073 x (omega arith))
+    pub writes-roots-end : notesOf (set wk rootsEndAt x) ≡ withRootsEnd x (notesOf wk)
+    writes-roots-end = same-parts (part-after 0 maxTable wk rootsEndAt x (omega arith)) (other rootsEndAt todoEndAt (λ q. omega arith)) (part-after rootsFrom maxRoots wk rootsEndAt x (omega arith))
+        (getD-set-same wk rootsEndAt x 0 (omega (arith, whole .long))) (part-before gatheredFrom maxLiterals wk rootsEndAt x (omega arith))
 
-    pub writes-gathered : (i : ℕ) → i < 2048 → notesOf (set wk (3074 + i) x) ≡ withGathered i x (notesOf wk)
-    writes-gathered i h = same-parts (part-after 0 2560 wk (3074 + i) x (omega arith)) (other (3074 + i) 2560 (λ q. omega arith)) (part-after 2561 512 wk (3074 + i) x (omega arith))
-        (other (3074 + i) 3073 (λ q. omega arith)) (part-set 3074 2048 wk i x)
+    pub writes-gathered : (i : ℕ) → i < maxLiterals → notesOf (set wk (gatheredFrom + i) x) ≡ withGathered i x (notesOf wk)
+    writes-gathered i h = same-parts (part-after 0 maxTable wk (gatheredFrom + i) x (omega arith)) (other (gatheredFrom + i) todoEndAt (λ q. omega arith)) (part-after rootsFrom maxRoots wk (gatheredFrom + i) x (omega arith))
+        (other (gatheredFrom + i) rootsEndAt (λ q. omega arith)) (part-set gatheredFrom maxLiterals wk i x)

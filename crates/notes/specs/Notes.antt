@@ -1,9 +1,10 @@
 -- The work space of the search as code keeps it, one array: clauses to look at and how many there are, roots whose pairs are to be looked at and how many, gathered clauses.
 use mathlib.Core.Path.{_≡_}
 use mathlib.Core.List.{List}
-use Prim.Native.Nat.{ℕ, _≤_, _<_}
+use Prim.Native.Nat.{ℕ, _+_, _*_, _≤_, _<_}
 use lib.ListN.{getD, set, length}
 use Rattle.general.specs.Parts.{part}
+use Rattle.literal.specs.Literal.{maxTable, maxLiterals, maxVariables}
 
 pub record Notes : Type 0 where
   pub todo : List ℕ
@@ -12,8 +13,28 @@ pub record Notes : Type 0 where
   pub rootsEnd : ℕ
   pub gathered : List ℕ
 
+-- a root is listed once at the start, and once by each tie, which leaves a root fewer
+abbrev pub maxRoots : ℕ
+maxRoots = 2 * maxVariables
+
+-- where the parts stand: the clauses to look at from 0 on, and how many, the roots, and how many, the gathered clauses
+abbrev pub todoEndAt : ℕ
+todoEndAt = maxTable
+
+abbrev pub rootsFrom : ℕ
+rootsFrom = todoEndAt + 1
+
+abbrev pub rootsEndAt : ℕ
+rootsEndAt = rootsFrom + maxRoots
+
+abbrev pub gatheredFrom : ℕ
+gatheredFrom = rootsEndAt + 1
+
+abbrev pub notesSize : ℕ
+notesSize = gatheredFrom + maxLiterals
+
 abbrev pub notesOf : List ℕ → Notes
-notesOf wk = record { todo = part 0 2560 wk; todoEnd = getD wk 2560 0; roots = part 2561 512 wk; rootsEnd = getD wk 3073 0; gathered = part 3074 2048 wk }
+notesOf wk = record { todo = part 0 maxTable wk; todoEnd = getD wk todoEndAt 0; roots = part rootsFrom maxRoots wk; rootsEnd = getD wk rootsEndAt 0; gathered = part gatheredFrom maxLiterals wk }
 
 -- clause g is to be looked at: it stands at an index from a on
 abbrev pub Noted : Notes → ℕ → ℕ → Type 0
@@ -45,4 +66,4 @@ withGathered i g w = record { todo = w .todo; todoEnd = w .todoEnd; roots = w .r
 
 -- the array has its parts whole
 pub record Whole (wk : List ℕ) : Type 0 where
-  pub long : length wk ≡ 5122
+  pub long : length wk ≡ notesSize

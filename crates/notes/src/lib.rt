@@ -1,24 +1,29 @@
 // The work space of the search: lists of what is still to be looked at. Outside a walk of one side it means nothing.
 ghost use mathlib.Core.Path.{_≡_};
-ghost use Prim.Native.Nat.{_+_, _<_};
+ghost use Prim.Native.Nat.{_<_};
 ghost use lib.ListN.{getD};
-ghost use Rattle.notes.specs.Notes.{notesOf, withTodo, withTodoEnd, withRoot, withRootsEnd, withGathered, Whole};
+ghost use Rattle.literal.specs.Literal.{maxTable, maxLiterals};
+ghost use Rattle.notes.specs.Notes.{notesOf, withTodo, withTodoEnd, withRoot, withRootsEnd, withGathered, Whole, maxRoots, notesSize};
+use literal::Literal;
+
+// A root is listed once at the start, and once by each tie, which leaves a root fewer.
+const MAX_ROOTS: usize = 2 * Literal::MAX_VARIABLES;
 
 // Where the parts begin: clauses to look at from 0 on, how many, roots whose pairs are to be looked at, how many, gathered clauses.
-const NOTED_END: usize = 2560;
+const TODO_END: usize = Literal::MAX_TABLE;
 
-const ROOTS: usize = 2561;
+const ROOTS: usize = TODO_END + 1;
 
-const ROOTS_END: usize = 3073;
+const ROOTS_END: usize = ROOTS + MAX_ROOTS;
 
-const GATHERED: usize = 3074;
+const GATHERED: usize = ROOTS_END + 1;
 
-pub const SIZE: usize = 5122;
+pub const SIZE: usize = GATHERED + Literal::MAX_LITERALS;
 
 pub type Notes = [u16; SIZE];
 
 fn word(work: &Notes, i: usize) -> u16
-    requires { ⌜ i < 5122 ⌝ }
+    requires { ⌜ i < notesSize ⌝ }
     ensures { λ r. ⌜ r ≡ getD (now (work .entry)) i 0 ⌝ }
 {
     work[i]
@@ -28,18 +33,18 @@ fn word(work: &Notes, i: usize) -> u16
 pub fn todo_end(work: &Notes) -> usize
     ensures { λ r. ⌜ r ≡ notesOf (now (work .entry)) .todoEnd ⌝ }
 {
-    word(work, NOTED_END) as usize
+    word(work, TODO_END) as usize
 }
 
 pub fn todo_at(work: &Notes, i: usize) -> u16
-    requires { ⌜ i < 2560 ⌝ }
+    requires { ⌜ i < maxTable ⌝ }
     ensures { λ r. ⌜ r ≡ getD (notesOf (now (work .entry)) .todo) i 0 ⌝ }
 {
     work[i]
 }
 
 pub fn put_todo(work: &mut Notes, i: usize, g: u16)
-    requires { ⌜ i < 2560 ⌝ }
+    requires { ⌜ i < maxTable ⌝ }
     requires { ⌜ Whole (now work) ⌝ }
     ensures { λ _. ⌜ notesOf (now (work .exit)) ≡ withTodo i g (notesOf (now (work .entry))) ⌝ }
     ensures { λ _. ⌜ Whole (now (work .exit)) ⌝ }
@@ -48,12 +53,12 @@ pub fn put_todo(work: &mut Notes, i: usize, g: u16)
 }
 
 pub fn set_todo_end(work: &mut Notes, n: usize)
-    requires { ⌜ n < 5122 ⌝ }
+    requires { ⌜ n < notesSize ⌝ }
     requires { ⌜ Whole (now work) ⌝ }
     ensures { λ _. ⌜ notesOf (now (work .exit)) ≡ withTodoEnd n (notesOf (now (work .entry))) ⌝ }
     ensures { λ _. ⌜ Whole (now (work .exit)) ⌝ }
 {
-    work[NOTED_END] = n as u16;
+    work[TODO_END] = n as u16;
 }
 
 // How many roots are listed for their pairs.
@@ -64,14 +69,14 @@ pub fn roots_end(work: &Notes) -> usize
 }
 
 pub fn root_at(work: &Notes, i: usize) -> u16
-    requires { ⌜ i < 512 ⌝ }
+    requires { ⌜ i < maxRoots ⌝ }
     ensures { λ r. ⌜ r ≡ getD (notesOf (now (work .entry)) .roots) i 0 ⌝ }
 {
     work[ROOTS + i]
 }
 
 pub fn put_root(work: &mut Notes, i: usize, r: u16)
-    requires { ⌜ i < 512 ⌝ }
+    requires { ⌜ i < maxRoots ⌝ }
     requires { ⌜ Whole (now work) ⌝ }
     ensures { λ _. ⌜ notesOf (now (work .exit)) ≡ withRoot i r (notesOf (now (work .entry))) ⌝ }
     ensures { λ _. ⌜ Whole (now (work .exit)) ⌝ }
@@ -80,7 +85,7 @@ pub fn put_root(work: &mut Notes, i: usize, r: u16)
 }
 
 pub fn set_roots_end(work: &mut Notes, n: usize)
-    requires { ⌜ n < 5122 ⌝ }
+    requires { ⌜ n < notesSize ⌝ }
     requires { ⌜ Whole (now work) ⌝ }
     ensures { λ _. ⌜ notesOf (now (work .exit)) ≡ withRootsEnd n (notesOf (now (work .entry))) ⌝ }
     ensures { λ _. ⌜ Whole (now (work .exit)) ⌝ }
@@ -90,14 +95,14 @@ pub fn set_roots_end(work: &mut Notes, n: usize)
 
 // The i-th of the clauses that were gathered.
 pub fn gathered_at(work: &Notes, i: usize) -> u16
-    requires { ⌜ i < 2048 ⌝ }
+    requires { ⌜ i < maxLiterals ⌝ }
     ensures { λ r. ⌜ r ≡ getD (notesOf (now (work .entry)) .gathered) i 0 ⌝ }
 {
     work[GATHERED + i]
 }
 
 pub fn put_gathered(work: &mut Notes, i: usize, g: u16)
-    requires { ⌜ i < 2048 ⌝ }
+    requires { ⌜ i < maxLiterals ⌝ }
     requires { ⌜ Whole (now work) ⌝ }
     ensures { λ _. ⌜ notesOf (now (work .exit)) ≡ withGathered i g (notesOf (now (work .entry))) ⌝ }
     ensures { λ _. ⌜ Whole (now (work .exit)) ⌝ }

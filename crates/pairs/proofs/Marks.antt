@@ -9,7 +9,7 @@ use lib.ListN.{getD, set, length, length-set, replicate, length-replicate}
 use lib.Seq.{getD-set-same, getD-set-other}
 use Rattle.general.specs.Lists.{getD-throughout}
 use Rattle.literal.specs.declared.Literal.{Literal}
-use Rattle.literal.specs.Literal.{FALSE, var, codeOf, literalAt, maxVariables}
+use Rattle.literal.specs.Literal.{FALSE, var, codeOf, literalAt, maxVariables, variables}
 use Rattle.literal.proofs.Codes.{literalAt-codeOf, var-code}
 use Rattle.theory.specs.Formula.{Clause}
 use Rattle.theory.specs.State.{State, value, standing}
@@ -21,17 +21,17 @@ use Rattle.pairs.proofs.Clauses.{standing-cases, not-standing, wide-ope
 
 -- the literals of c but those of the rest are marked
 pub record Marks (s : State) (c rest : Clause) (marks : List ℕ) : Type 0 where
-  pub long : length marks ≡ 257
+  pub long : length marks ≡ variables
   pub part : (l : Literal) → List·Memᴰ l rest → List·Memᴰ l c
   pub all : (y : Literal) → List·Memᴰ y (standing s c) → (getD marks (var y) 0 ≡ codeOf y) ⊎ List·Memᴰ y (standing s rest)
   pub only : (p : ℕ) → 0 < p → 0 < getD marks p 0 → List·Memᴰ (literalAt (getD marks p 0)) (standing s c)
 
-pub marks-begin : (s : State) (c : Clause) → Marks s c c (replicate 257 0)
+pub marks-begin : (s : State) (c : Clause) → Marks s c c (replicate variables 0)
 marks-begin s c = record {
-  long = length-replicate {A = ℕ} 257 0;
+  long = length-replicate {A = ℕ} variables 0;
   part = λ l m. m;
   all = λ y m. inr m;
-  only = λ p o h. absurd (omega (arith, getD-throughout {A = ℕ} 257 p 0));
+  only = λ p o h. absurd (omega (arith, getD-throughout {A = ℕ} variables p 0));
 }
 
 module _ (s : State) (c : Clause) (w : Wide (standing s c)) (k : Distinct (standing s c)) where

@@ -8,7 +8,7 @@ use native.Mathlib.Omega.{arith}
 use lib.Dec.{eqb}
 use lib.ListN.{getD, set, replicate}
 use Rattle.general.specs.Lists.{from}
-use Rattle.literal.specs.Literal.{var, opposite, codeOf, literalAt, maxVariables, maxTable, codes}
+use Rattle.literal.specs.Literal.{var, opposite, codeOf, literalAt, maxVariables, maxTable, codes, variables}
 use Rattle.literal.proofs.Codes.{var-at, var-code}
 use Rattle.theory.specs.Formula.{Clause}
 use Rattle.theory.specs.State.{value, standing}
@@ -81,7 +81,7 @@ pub record MarkWalk (ix st : List ℕ) (g start end : ℕ) (marks : List ℕ) (i
   pub marks-so-far : Marks (stateIn st) (clauseOf ix g) (restOf ix i end) marks
 
 pub mark-begins : {ix st : List ℕ} {g start end : ℕ} → Readable ix st g → start ≡ startAt ix g → end ≡ startAt ix (g + 1) - 1 →
-    MarkWalk ix st g start end (replicate 257 0) start
+    MarkWalk ix st g start end (replicate variables 0) start
 mark-begins {ix} {st} {g} {start} {end} r a b = record {
   readable = r;
   reads = reads-begin (r .index) (r .inside) a b;

@@ -17,7 +17,7 @@ use receipt::Searching;
 const ALLOWANCE: u32 = 1000000;
 
 // One byte past the longest strip is enough to tell that a strip is too long.
-pub const INPUT: usize = 16385;
+pub const INPUT: usize = strip::MAX_STRIP + 1;
 
 // Enough for every report: an element of the plan takes at most a space and three digits, one of the trail a space, a sign and five digits.
 pub const PRINTED: usize = 4096;

@@ -28,7 +28,7 @@ const GROUP: usize = 2;
 const ENTRY: usize = 3;
 
 // The longest saved strip, of a table at the limits.
-pub const MAX_SAVED: usize = 7172;
+pub const MAX_SAVED: usize = FRAME + GROUP * Literal::MAX_CLAUSES + ENTRY * Literal::MAX_LITERALS;
 
 fn put_byte(strip: &mut [u8], at: usize, byte: u8) -> usize
     requires { ⌜ at < length (now strip) ⌝ }

@@ -136,7 +136,7 @@ fn split(
         };
     }
     let mut second = *state;
-    let x = Literal::Pos(p.0);
+    let x = Literal::new(p, true);
     let out = side::begin(index, state, work, x.code());
     let a = settle_and_decide(
         index,
@@ -149,7 +149,7 @@ fn split(
     );
     let outcome = a.outcome;
     let Outcome::NoLayout = outcome else {
-        return through(a, 1, Literal::Neg(p.0), level.depth, trail);
+        return through(a, 1, x.opposite(), level.depth, trail);
     };
     let used = 1 + a.count;
     let taken = side::begin(index, &mut second, work, x.opposite().code());

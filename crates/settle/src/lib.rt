@@ -17,9 +17,9 @@ use receipt::Refusal;
 use receipt::Settling;
 
 // What Settle writes for a placement that is taken, and for one that is left out.
-pub const TAKEN: i16 = 257;
+pub const TAKEN: i16 = Literal::MAX_VARIABLES as i16 + 1;
 
-pub const LEFT_OUT: i16 = -257;
+pub const LEFT_OUT: i16 = -TAKEN;
 
 // +p open, +r or -r tied to r.
 fn state_entry(x: Literal) -> i16

@@ -4,7 +4,7 @@ use mathlib.Core.Bool.{Bool, true, false}
 use mathlib.Core.List.{List}
 use Prim.Native.Nat.{ℕ, _*_, _/_, _≤_, _<_}
 use lib.ListN.{length}
-use Rattle.literal.specs.Literal.{FALSE, literalAt, maxVariables, maxTable, codes}
+use Rattle.literal.specs.Literal.{FALSE, literalAt, maxVariables, maxTable, codes, variables}
 use Rattle.theory.specs.State.{assign, standing, WellFormed}
 use Rattle.theory.proofs.ByCount.{ByCount}
 use Rattle.theory.proofs.DistinctBut.{DistinctBut}
@@ -14,7 +14,7 @@ use Rattle.tally.specs.Tally.{tallyOf, stateIn, valueIn}
 use Rattle.tally.specs.Ring.{Classes}
 use Rattle.tally.specs.Counts as counts
 use Rattle.tally.specs.Counts.{Exact}
-use Rattle.notes.specs.Notes.{Whole}
+use Rattle.notes.specs.Notes.{Whole, maxRoots}
 use Rattle.moves.specs.Deciding.{DeadIn}
 use Rattle.engine.specs.Ready.{Ready}
 
@@ -22,10 +22,10 @@ use Rattle.engine.specs.Ready.{Ready}
 pub record Tallied (ix st : List ℕ) : Type 0 where
   pub index : Indexed ix
   pub exact : Exact ix (tallyOf st .values) (tallyOf st .counts)
-  pub linked : length (tallyOf st .links) ≡ 257
+  pub linked : length (tallyOf st .links) ≡ variables
   pub classes : Classes (tallyOf st .values) (tallyOf st .links)
   pub room : counts.room ix (tallyOf st .values) ≤ maxTable
-  pub roots : counts.roots (tallyOf st .values) maxVariables ≤ 512
+  pub roots : counts.roots (tallyOf st .values) maxVariables ≤ maxRoots
 
 -- no rule fits
 pub record Calm (ix st : List ℕ) : Type 0 where

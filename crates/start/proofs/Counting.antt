@@ -11,7 +11,7 @@ use lib.ListN.{getD, set, length, length-take, length-drop}
 use lib.Seq.{getD-set-same, getD-set-other}
 use Rattle.general.specs.Booleans.{bit}
 use Rattle.general.specs.Bits.{bit-le}
-use Rattle.literal.specs.Literal.{maxClauses, maxVariables}
+use Rattle.literal.specs.Literal.{maxClauses, maxVariables, maxTable, variables}
 use Rattle.theory.specs.State.{initial}
 use Rattle.theory.proofs.Propagation.{none-left}
 use Rattle.occurrences.specs.Index.{Indexed, clauseCount, clauseOf, formulaOf}
@@ -28,7 +28,7 @@ use Rattle.start.proofs.Rooms.{roots-few, room-few}
 use Rattle.start.proofs.Opening.{set-below, open-counted, open-initial, open-classes}
 use Rattle.start.proofs.Initial.{Opens, opens-initial, trues-initial, standing-empty}
 
-pub counted-begins : {ix : List ℕ} {t : Tally} {w : Notes} → OpenBelow t 257 → CountedBelow ix t w 0 0
+pub counted-begins : {ix : List ℕ} {t : Tally} {w : Notes} → OpenBelow t variables → CountedBelow ix t w 0 0
 counted-begins o = record {
   opened = o;
   counts = λ g h. absurd (omega arith);
@@ -39,7 +39,7 @@ counted-begins o = record {
 }
 
 -- clause n is written past the last note, and is one where the end moves on
-module _ {ix : List ℕ} {t : Tally} {w : Notes} {end n : ℕ} (c : CountedBelow ix t w end n) (inside : n < maxClauses) (long : length (w .todo) ≡ 2560) (x : ℕ)
+module _ {ix : List ℕ} {t : Tally} {w : Notes} {end n : ℕ} (c : CountedBelow ix t w end n) (inside : n < maxClauses) (long : length (w .todo) ≡ maxTable) (x : ℕ)
     (is : x ≡ length (clauseOf ix n)) where
   kept : (i : ℕ) → i < end → getD (set (w .todo) end n) i 0 ≡ getD (w .todo) i 0
   kept i h = getD-set-other (w .todo) end i n 0 (λ q. omega arith)
@@ -69,7 +69,7 @@ module _ {ix : List ℕ} {t : Tally} {w : Notes} {end n : ℕ} (c : CountedBelow
     few = omega (arith, bit-le (ltb x 3), c .few);
   }
 
-pub todo-long : {wk : List ℕ} → Whole wk → length (notesOf wk .todo) ≡ 2560
+pub todo-long : {wk : List ℕ} → Whole wk → length (notesOf wk .todo) ≡ maxTable
 todo-long {wk} h = simp (length-take, length-drop) (omega (arith, h .long))
 
 pub empty-dies : (ix : List ℕ) (g : ℕ) → g < clauseCount ix → length (clauseOf ix g) ≡ 0 → Died (formulaOf ix) initial

@@ -8,16 +8,16 @@ use lib.ListN.{getD, set, length, length-set, length-take, length-drop, List·ge
 use lib.Seq.{getD-set-same, getD-set-other}
 use Rattle.general.specs.Bits.{bit-same}
 use Rattle.general.specs.Repeats.{times-nil, times-cons}
-use Rattle.literal.specs.Literal.{maxVariables}
+use Rattle.literal.specs.Literal.{maxVariables, variables}
 use Rattle.theory.specs.State.{initial}
 use Rattle.state.specs.State.{stateOf}
 use Rattle.state.proofs.Values.{stateOf-initial}
-use Rattle.tally.specs.Tally.{Tally, tallyOf, withValue, withLink, withCount}
+use Rattle.tally.specs.Tally.{Tally, tallyOf, withValue, withLink, withCount, tallySize}
 use Rattle.tally.specs.Ring.{Chain, Ring, Classes}
 use Rattle.tally.proofs.Turned.{inside-root}
 use Rattle.start.specs.Opening.{OpenBelow}
 
-pub open-begins : (st : List ℕ) → length st ≡ 1026 → OpenBelow (tallyOf st) 0
+pub open-begins : (st : List ℕ) → length st ≡ tallySize → OpenBelow (tallyOf st) 0
 open-begins st h = record {
   long-values = simp (length-take, length-drop) (omega arith);
   long-links = simp (length-take, length-drop) (omega arith);
@@ -34,7 +34,7 @@ set-below l n x f h e before p b = elim (decLt p n) [
   | no q ↦ let z : p ≡ n = omega arith in rw z (getD-set-same l n x 0 h ∙ e)
 ]
 
-pub open-goes : {t : Tally} {n : ℕ} → n < 257 → OpenBelow t n → OpenBelow (withLink n n (withValue n (2 * n) t)) (n + 1)
+pub open-goes : {t : Tally} {n : ℕ} → n < variables → OpenBelow t n → OpenBelow (withLink n n (withValue n (2 * n) t)) (n + 1)
 open-goes {t} {n} h o = record {
   long-values = length-set (t .values) n (2 * n) ∙ o .long-values;
   long-links = length-set (t .links) n n ∙ o .long-links;
@@ -53,7 +53,7 @@ open-counted {t} g x o = record {
   links = o .links;
 }
 
-module _ {t : Tally} (o : OpenBelow t 257) where
+module _ {t : Tally} (o : OpenBelow t variables) where
   pub open-initial : stateOf (t .values) ≡ initial
   open-initial = stateOf-initial (t .values) (λ p h. o .values p (omega arith))
 
@@ -71,7 +71,7 @@ module _ {t : Tally} (o : OpenBelow t 257) where
       to q e = rw e (omega (arith, o .values r (omega arith)))
 
       from : (q : ℕ) → getD (t .values) q 0 / 2 ≡ r → q ≡ r
-      from q e = elim (decLt q 257) [
+      from q e = elim (decLt q variables) [
         | yes b ↦ omega (arith, o .values q b)
         | no b ↦ absurd (let z : length (t .values) ≤ q = omega (arith, o .long-values) in omega (arith, List·getD-eq-default (t .values) 0 z))
       ]

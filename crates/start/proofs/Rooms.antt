@@ -7,7 +7,7 @@ use native.Mathlib.Omega.{arith}
 use lib.Dec.{eqb, ltb}
 use lib.ListN.{getD}
 use Rattle.general.specs.Bits.{bit-le}
-use Rattle.literal.specs.Literal.{maxVariables, maxLiterals}
+use Rattle.literal.specs.Literal.{maxVariables, maxLiterals, variables}
 use Rattle.occurrences.specs.Index.{Indexed, firstAt, width}
 use Rattle.tally.specs.Counts.{load, room, roots}
 
@@ -30,4 +30,4 @@ module _ {ix : List ℕ} (index : Indexed ix) where
       go false a r = omega arith
 
   pub room-few : (v : List ℕ) → room ix v ≤ maxLiterals
-  room-few v = omega (arith, load-few v 257 (omega arith), index .ends 257 (omega arith))
+  room-few v = omega (arith, load-few v variables (omega arith), index .ends variables (omega arith))

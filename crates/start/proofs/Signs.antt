@@ -16,13 +16,12 @@ use Rattle.literal.specs.declared.Literal.the-variants.{Pos, Neg}
 use Rattle.literal.specs.Literal.{var, opposite, literalAt, maxVariables}
 use Rattle.literal.proofs.Codes.{literalAt-codeOf}
 use Rattle.theory.specs.State.{initial}
-use Rattle.theory.specs.Rules.{occurs}
 use Rattle.theory.proofs.Clauses.{mem-occurs}
 use Rattle.theory.proofs.PairsBut.{PairsBut}
 use Rattle.occurrences.specs.Index.{Indexed, clauseCount, clauseOf, formulaOf, firstAt, occurrenceAt, occurrences, width}
 use Rattle.occurrences.proofs.Formulas.{before-index}
 use Rattle.general.specs.Lists.{before-left}
-use Rattle.notes.specs.Notes.{Notes, notesOf, withRoot, withRootsEnd, Whole}
+use Rattle.notes.specs.Notes.{Notes, notesOf, withRoot, withRootsEnd, Whole, maxRoots}
 use Rattle.engine.proofs.Along.{within-indexed}
 use Rattle.start.specs.Signs.{Signed, BothSigns, ListedBelow, Listing}
 use Rattle.start.proofs.Initial.{standing-initial}
@@ -81,7 +80,7 @@ module _ {ix : List ℕ} (index : Indexed ix) where
 
 -- the list -----------------------------------------------------------------------------------------------------------
 
-roots-long : {wk : List ℕ} → Whole wk → length (notesOf wk .roots) ≡ 512
+roots-long : {wk : List ℕ} → Whole wk → length (notesOf wk .roots) ≡ maxRoots
 roots-long {wk} h = simp (length-take, length-drop) (omega (arith, h .long))
 
 pub listed-begins : {ix : List ℕ} (w : Notes) → ListedBelow ix (withRootsEnd 0 w) 1
@@ -103,7 +102,7 @@ module _ {ix : List ℕ} (w : Notes) {end n : ℕ} (b : ListedBelow ix (withRoot
     few = omega (arith, b .few);
   }
 
-  listed-goes : 0 < n → n ≤ maxVariables → length (w .roots) ≡ 512 → ListedBelow ix (withRootsEnd (end + 1) (withRoot end n w)) (n + 1)
+  listed-goes : 0 < n → n ≤ maxVariables → length (w .roots) ≡ maxRoots → ListedBelow ix (withRootsEnd (end + 1) (withRoot end n w)) (n + 1)
   listed-goes o low long = record {
     listed = λ p q h s. elim (decEq p n) [
       | yes e ↦ (end, omega arith, last ∙ sym e)

@@ -4,6 +4,7 @@ use mathlib.Core.Bool.{Bool, true, false}
 use mathlib.Core.List.{List}
 use Prim.Native.Nat.{ℕ, _≤_, _<_}
 use lib.ListN.{getD, length}
+use Rattle.literal.specs.Literal.{variables}
 use Rattle.theory.specs.State.{initial}
 use Rattle.occurrences.specs.Index.{clauseOf, formulaOf}
 use Rattle.tally.specs.Tally.{Tally, stateIn}
@@ -15,7 +16,7 @@ use Rattle.start.specs.Opening.{OpenBelow}
 
 -- the clauses below n: none is empty, and those with two literals or fewer are the first `end` noted ones
 pub record CountedBelow (ix : List ℕ) (t : Tally) (w : Notes) (end n : ℕ) : Type 0 where
-  pub opened : OpenBelow t 257
+  pub opened : OpenBelow t variables
   pub counts : (g : ℕ) → g < n → getD (t .counts) g 0 ≡ length (clauseOf ix g)
   pub never : (g : ℕ) → g < n → 0 < length (clauseOf ix g)
   pub noted : (g : ℕ) → g < n → length (clauseOf ix g) < 3 → (i : ℕ) × (i < end) × (getD (w .todo) i 0 ≡ g)

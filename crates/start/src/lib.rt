@@ -4,9 +4,9 @@ ghost use Prim.Native.Nat.{_+_, _%_, _<_, _≤_};
 ghost use lib.Dec.{ltb};
 ghost use lib.ListN.{length};
 ghost use Rattle.general.specs.Booleans.{bit};
-ghost use Rattle.literal.specs.Literal.{maxVariables, maxLiterals};
+ghost use Rattle.literal.specs.Literal.{maxVariables, maxLiterals, variables};
 ghost use Rattle.occurrences.specs.Index.{Indexed, occurrenceAt, clauseCount, clauseOf};
-ghost use Rattle.tally.specs.Tally.{tallyOf};
+ghost use Rattle.tally.specs.Tally.{tallyOf, tallySize};
 ghost use Rattle.notes.specs.Notes.{notesOf, withRootsEnd, Whole};
 ghost use Rattle.tie.specs.Doubling.{DoublesOf};
 ghost use Rattle.start.specs.Opening.{OpenBelow};
@@ -21,8 +21,8 @@ use tally::Tally;
 
 // Every variable is open and alone in its class.
 fn open_all(state: &mut Tally)
-    requires { ⌜ length (now state) ≡ 1026 ⌝ }
-    ensures { λ _. ⌜ OpenBelow (tallyOf (now (state .exit))) 257 ⌝ }
+    requires { ⌜ length (now state) ≡ tallySize ⌝ }
+    ensures { λ _. ⌜ OpenBelow (tallyOf (now (state .exit))) variables ⌝ }
 {
     for p in 0..Literal::VARIABLES {
         tally::set_value(state, p, 2 * (p as u16));
@@ -52,7 +52,7 @@ fn short(count: u16) -> usize
 // A clause is always written past the last note, and is one where the end moves on: where it is short.
 fn count_all(index: &Index, state: &mut Tally, work: &mut Notes) -> bool
     requires { ⌜ Indexed (now index) ⌝ }
-    requires { ⌜ OpenBelow (tallyOf (now state)) 257 ⌝ }
+    requires { ⌜ OpenBelow (tallyOf (now state)) variables ⌝ }
     requires { ⌜ Whole (now work) ⌝ }
     ensures { λ r. ⌜ CountsOf (now (index .entry)) (now (state .exit)) (now (work .exit)) r ⌝ }
 {
@@ -156,7 +156,7 @@ fn list_all(index: &Index, work: &mut Notes)
 // Everything is open, and what a rule may fit is noted; true is a dead end.
 pub fn start(index: &Index, state: &mut Tally, work: &mut Notes) -> bool
     requires { ⌜ Indexed (now index) ⌝ }
-    requires { ⌜ length (now state) ≡ 1026 ⌝ }
+    requires { ⌜ length (now state) ≡ tallySize ⌝ }
     requires { ⌜ Whole (now work) ⌝ }
     ensures { λ r. ⌜ StartOf (now (index .entry)) (now (state .exit)) (now (work .exit)) r ⌝ }
 {

@@ -15,6 +15,7 @@ ghost use Rattle.mentions.specs.Noted.{Noted};
 ghost use Rattle.strip.specs.Decoding.{decodingOf, called};
 use literal::ClauseNumber;
 use literal::Literal;
+use literal::Variable;
 use receipt::Fault;
 use receipt::Reading;
 use receipt::Refusal;
@@ -25,7 +26,7 @@ use theory::Progress;
 use theory::Stored;
 use theory::Turn;
 
-const MAX_STRIP: usize = 16384;
+pub const MAX_STRIP: usize = 16384;
 
 const NOTHING_READ: Progress = Progress {
     turn: Turn::Start,
@@ -119,8 +120,8 @@ fn obey(
                 Obeyed::Refused(Fault::TooManyClauses)
             }
         }
-        Mark::Taken => entered(progress, Literal::Pos(operand)),
-        Mark::LeftOut => entered(progress, Literal::Neg(operand)),
+        Mark::Taken => entered(progress, Literal::new(Variable(operand), true)),
+        Mark::LeftOut => entered(progress, Literal::new(Variable(operand), false)),
         Mark::Closes => goes(Turn::Outside, n, clauses, literals, Stored::Element(0)),
         Mark::Ends => ended(progress, mentioned),
     }

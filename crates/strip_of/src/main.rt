@@ -2,7 +2,9 @@
 use typed::Typed;
 
 fn main() {
-    if stream::explained(b"strip_of: reads the number of placements and a table, as decimal numbers, from standard input, and writes their strip. It takes no arguments.\n") {
+    if stream::explained(
+        b"strip_of: reads the number of placements and a table, as decimal numbers, from standard input, and writes their strip. It takes no arguments.\n",
+    ) {
         return;
     }
     let mut text = [0u8; typed::INPUT];

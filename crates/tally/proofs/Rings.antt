@@ -13,7 +13,7 @@ use Rattle.general.specs.Bits.{bit-le, bit-true}
 use Rattle.general.specs.Times.{times}
 use Rattle.general.specs.Repeats.{times-cons}
 use Rattle.literal.specs.declared.Literal.{Literal}
-use Rattle.literal.specs.Literal.{var, codeOf, literalAt, maxVariables, codes}
+use Rattle.literal.specs.Literal.{var, codeOf, literalAt, maxVariables, codes, variables}
 use Rattle.literal.proofs.Codes.{literalAt-codeOf, codeOf-literalAt, var-at}
 use Rattle.theory.specs.State.{replace, assign}
 use Rattle.theory.proofs.Literals.{var-opposite}
@@ -60,7 +60,7 @@ module _ {link w : List ℕ} {r p : ℕ} {rest : List ℕ} (a : Arc link w r p r
   pub first-once : times p rest ≡ 0
   first-once = omega (arith, here, bit-le (eqb (getD w p 0 / 2) r))
 
-  module _ (long : length w ≡ 257) (opened : 0 < r) where
+  module _ (long : length w ≡ variables) (opened : 0 < r) where
     pub arc-inside : p ≤ maxVariables
     arc-inside = elim (decLe p maxVariables) [
       | yes h ↦ h
@@ -86,9 +86,9 @@ pub record Round (link v : List ℕ) (x : ℕ) (t : Literal) (w : List ℕ) (p :
   pub arc : Arc link w (x / 2) p rest
   pub once : times (x / 2) rest ≡ 0
   pub agree : Agreeing x t v w
-  pub long : length w ≡ 257
+  pub long : length w ≡ variables
 
-pub round-begins : {link v : List ℕ} {x : ℕ} {t : Literal} → Ring link v (x / 2) → length v ≡ 257 → Round link v x t v (x / 2)
+pub round-begins : {link v : List ℕ} {x : ℕ} {t : Literal} → Ring link v (x / 2) → length v ≡ variables → Round link v x t v (x / 2)
 round-begins r long = record { rest = r .others; arc = r .arc; once = first-once (r .arc); agree = λ q h. refl; long = long }
 
 module _ {link v : List ℕ} {x : ℕ} {t : Literal} {w : List ℕ} {p : ℕ} (opened : 1 < x) (o : Round link v x t w p) where
@@ -120,8 +120,8 @@ module _ {link v : List ℕ} {x : ℕ} {t : Literal} {w : List ℕ} {p : ℕ} (o
     still : (q : ℕ) → times q (o .rest) ≡ bit (eqb (getD (set w p to) q 0 / 2) (x / 2))
     still = left (o .arc) (o .long) (omega arith) to away
 
-    pub falls : size (x / 2) (set w p to) 257 < size (x / 2) w 257
-    falls = omega (arith, size-set (x / 2) w p to (omega (arith, member-inside, o .long)) away member-of 257 (omega (arith, member-inside)))
+    pub falls : size (x / 2) (set w p to) variables < size (x / 2) w variables
+    falls = omega (arith, size-set (x / 2) w p to (omega (arith, member-inside, o .long)) away member-of variables (omega (arith, member-inside)))
 
     module _ (n : ℕ) (next : n ≡ getD link p 0) where
       -- back at the root: none is left

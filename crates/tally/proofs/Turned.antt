@@ -9,7 +9,7 @@ use lib.Dec.{eqb}
 use lib.ListN.{getD, length, List·getD-eq-default}
 use Rattle.general.specs.Booleans.{bit}
 use Rattle.literal.specs.declared.Literal.{Literal}
-use Rattle.literal.specs.Literal.{var, codeOf, literalAt, maxVariables, codes}
+use Rattle.literal.specs.Literal.{var, codeOf, literalAt, maxVariables, codes, variables}
 use Rattle.literal.proofs.Codes.{codeOf-literalAt, var-at}
 use Rattle.theory.specs.State.{replace, assign}
 use Rattle.theory.proofs.States.{replace-other}
@@ -19,13 +19,13 @@ use Rattle.tally.specs.Ring.{Ring, Classes}
 use Rattle.tally.specs.Counts.{roots}
 use Rattle.tally.proofs.Rings.{replace-over}
 
-pub inside-root : (v : List ℕ) (r : ℕ) → length v ≡ 257 → 0 < r → getD v r 0 ≡ 2 * r → r ≤ maxVariables
+pub inside-root : (v : List ℕ) (r : ℕ) → length v ≡ variables → 0 < r → getD v r 0 ≡ 2 * r → r ≤ maxVariables
 inside-root v r long o e = elim (decLe r maxVariables) [
   | yes h ↦ h
   | no h ↦ absurd (let z : length v ≤ r = omega arith in omega (arith, List·getD-eq-default v 0 z))
 ]
 
-module _ (v u : List ℕ) (x : ℕ) (t : Literal) (lv : length v ≡ 257) (lu : length u ≡ 257) (is : stateOf u ≡ assign (literalAt x) t (stateOf v)) where
+module _ (v u : List ℕ) (x : ℕ) (t : Literal) (lv : length v ≡ variables) (lu : length u ≡ variables) (is : stateOf u ≡ assign (literalAt x) t (stateOf v)) where
   value-is : (q : ℕ) → q ≤ maxVariables → literalAt (getD u q 0) ≡ replace (literalAt x) t (literalAt (getD v q 0))
   value-is q h = sym (stateOf-inside u q h) ∙ ap (λ (s : ℕ → Literal). s q) is ∙ rw (stateOf-inside v q h)
 

@@ -1,8 +1,9 @@
 -- The state of the search as code keeps it, one array in three parts: what each variable stands for, the next variable of its class, and each clause's count.
 use mathlib.Core.List.{List}
-use Prim.Native.Nat.{ℕ}
+use Prim.Native.Nat.{ℕ, _+_}
 use lib.ListN.{getD, set}
 use Rattle.general.specs.Parts.{part}
+use Rattle.literal.specs.Literal.{variables, maxClauses}
 use Rattle.theory.specs.State.{State}
 use Rattle.state.specs.State.{stateOf}
 
@@ -11,8 +12,18 @@ pub record Tally : Type 0 where
   pub links : List ℕ
   pub counts : List ℕ
 
+-- where the parts begin: the values at 0, the links, the counts
+abbrev pub linksFrom : ℕ
+linksFrom = variables
+
+abbrev pub countsFrom : ℕ
+countsFrom = linksFrom + variables
+
+abbrev pub tallySize : ℕ
+tallySize = countsFrom + maxClauses
+
 abbrev pub tallyOf : List ℕ → Tally
-tallyOf st = record { values = part 0 257 st; links = part 257 257 st; counts = part 514 512 st }
+tallyOf st = record { values = part 0 variables st; links = part linksFrom variables st; counts = part countsFrom maxClauses st }
 
 -- the state of propagation that it stands for
 abbrev pub stateIn : List ℕ → State

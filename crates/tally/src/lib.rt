@@ -1,31 +1,32 @@
 // The state of the search: what each variable stands for, the rings of the classes, and each clause's count.
 ghost use mathlib.Core.Path.{_≡_};
-ghost use Prim.Native.Nat.{_+_, _*_, _/_, _%_, _<_, _≤_};
+ghost use Prim.Native.Nat.{_<_, _≤_};
 ghost use Rattle.literal.specs.Literal.{opposite, codeOf, literalAt, maxVariables, maxClauses, maxTable, codes};
 ghost use Rattle.theory.specs.State.{value};
 ghost use Rattle.occurrences.specs.Index.{codeAt};
 ghost use Rattle.tally.specs.Tally.{tallyOf, stateIn, valueIn, linkIn, countIn, withValue, withLink, withCount};
+use literal::Literal;
 use occurrences::Index;
 
 // Where the parts begin: values at 0, links of the rings, counts.
-const LINKS: usize = 257;
+const LINKS: usize = Literal::VARIABLES;
 
-const COUNTS: usize = 514;
+const COUNTS: usize = LINKS + Literal::VARIABLES;
 
-pub const SIZE: usize = 1026;
+pub const SIZE: usize = COUNTS + Literal::MAX_CLAUSES;
 
 pub type Tally = [u16; SIZE];
 
 // A count is open literals + ONE_TRUE * true ones.
-pub const ONE_TRUE: u16 = 4096;
+pub const ONE_TRUE: u16 = 2 * Literal::MAX_LITERALS as u16;
 
-pub const TWO_TRUE: u16 = 8192;
+pub const TWO_TRUE: u16 = 2 * ONE_TRUE;
 
 // The code of the opposite literal.
 pub fn opposite(x: u16) -> u16
     ensures { λ r. ⌜ r ≡ codeOf (opposite (literalAt x)) ⌝ }
 {
-    x ^ 1
+    Literal::of_code(x).opposite().code()
 }
 
 // The code of the literal that variable p stands for.

@@ -1,19 +1,17 @@
 -- What stands in a clause, how often, and what becomes of it in a state.
-use mathlib.Core.Path.{_≡_, refl, ap, sym, _∙_}
-use mathlib.Core.Bool.{Bool, true, false, cond}
-use mathlib.Core.Logic.{_⊎_, inl, inr, _≢_, ⊎-elim}
-use mathlib.Core.List.{List, [], _∷_, List·Memᴰ, List·Memᴰ·head, List·Memᴰ·tail, List·Memᴰ·not-nil, List·Memᴰ·cases-cons}
-use Prim.Native.Nat.{ℕ, zero, suc, _+_, _<_, _≤_}
+use mathlib.Core.Path.{_≡_, refl, sym, _∙_}
+use mathlib.Core.Bool.{true}
+use mathlib.Core.Logic.{_≢_, ⊎-elim}
+use mathlib.Core.List.{[], _∷_, List·Memᴰ, List·Memᴰ·head, List·Memᴰ·tail, List·Memᴰ·not-nil, List·Memᴰ·cases-cons}
+use Prim.Native.Nat.{suc, _+_, _<_, _≤_}
 use native.Mathlib.Omega.{arith}
-use lib.Dec.{ltb}
-use borrow.Author.Tests.{ltb-true, ltb-false, lt-ltb}
-use Rattle.general.specs.Booleans.{bit, bool-cases}
+use borrow.Author.Tests.{ltb-true, lt-ltb}
 use Rattle.literal.specs.declared.Literal.{Literal}
-use Rattle.literal.specs.Literal.{TRUE, FALSE, var, opposite, same}
+use Rattle.literal.specs.Literal.{FALSE}
 use Rattle.theory.specs.Formula.{Clause}
 use Rattle.theory.specs.State.{State, value, stand, standing}
 use Rattle.theory.specs.Rules.{occurs, stands}
-use Rattle.theory.proofs.Literals.{same-true, same-false, same-refl, same-ne, literal-cases}
+use Rattle.theory.proofs.Literals.{same-refl, same-ne, literal-cases}
 use Rattle.theory.proofs.States.{Based, base-false, Refines, refines-value}
 
 -- occurrences ----------------------------------------------------------------------------------------------------

@@ -8,7 +8,7 @@ use native.Mathlib.Omega.{arith}
 use lib.IntN.{ℤ}
 use Rattle.theory.specs.Bound.{N}
 use Rattle.theory.specs.Formula.{Formula, Choice, clauses, Solution, Within}
-use Rattle.theory.specs.Order.{_≼_, Least, IsFirst}
+use Rattle.theory.specs.Order.{Least, IsFirst, _≼_}
 use Rattle.receipt.specs.declared.Outcome.the-variants.{LaidOut, NoLayout, Stopped}
 use Rattle.theory.specs.Search.{decide, treeOf, needs, search}
 use Rattle.theory.specs.State.{initial, opens, WellFormed}

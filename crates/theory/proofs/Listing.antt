@@ -16,7 +16,7 @@ use Rattle.literal.specs.Literal.{same}
 use Rattle.theory.specs.Formula.{Formula, Choice, assignment, clauses, Solution, Within}
 use Rattle.theory.specs.Layouts.{layouts}
 use Rattle.theory.specs.Listing.{openVariable, decideOpen, openTree, listTree}
-use Rattle.theory.specs.Order.{_≼_, _≺_, Least, IsLeast, Firsts}
+use Rattle.theory.specs.Order.{_≺_, Least, IsLeast, Firsts, _≼_}
 use Rattle.theory.specs.Propagation.{step, Settled, dead, rest, settle}
 use Rattle.theory.specs.Search.{choiceOf, splitOn, decided}
 use Rattle.theory.specs.State.{State, initial, opens, Open, WellFormed}

@@ -9,7 +9,7 @@ use Rattle.general.specs.Booleans.{bit}
 use Rattle.literal.specs.declared.Literal.the-variants.{Pos, Neg}
 use Rattle.literal.specs.Literal.{entryOf}
 use Rattle.theory.specs.Formula.{Formula, Choice, clauses, Solution, Within}
-use Rattle.theory.specs.Order.{_≼_, IsFirst}
+use Rattle.theory.specs.Order.{IsFirst, _≼_}
 use Rattle.theory.specs.Search.{decide, treeOf, search, planOf, trailOf}
 use Rattle.theory.specs.State.{initial, opens, WellFormed}
 use Rattle.theory.specs.Table.{Accepted}

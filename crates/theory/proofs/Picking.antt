@@ -6,8 +6,8 @@ use mathlib.Core.List.{[]}
 use mathlib.Core.Option.{Option, none}
 use Prim.Native.Nat.{ℕ, suc}
 use native.Mathlib.Omega.{arith}
-use Rattle.theory.specs.Formula.{Formula, Choice, assignment, Within}
 use Rattle.theory.specs.Order.{_≼_}
+use Rattle.theory.specs.Formula.{Formula, Choice, assignment, Within}
 use Rattle.theory.specs.Propagation.{step, Settled, dead, rest, settle}
 use Rattle.theory.specs.Search.{branchVariable, splitOn, decided, decide}
 use Rattle.theory.specs.State.{State, opens, WellFormed}

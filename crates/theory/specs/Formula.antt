@@ -8,7 +8,7 @@ use lib.IntN.{ℤ, negsuc, pos as posℤ}
 use Rattle.general.specs.Booleans.{bit}
 use Rattle.literal.specs.declared.Literal.{Literal}
 use Rattle.literal.specs.declared.Literal.the-variants.{Pos, Neg}
-use Rattle.literal.specs.Literal.{var, literalOf}
+use Rattle.literal.specs.Literal.{var}
 
 abbrev pub Clause : Type 0
 Clause = List Literal

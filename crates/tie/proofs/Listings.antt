@@ -7,10 +7,10 @@ use native.Mathlib.Decide.{decLt}
 use native.Mathlib.Omega.{arith}
 use lib.ListN.{getD, set, length, length-take, length-drop}
 use lib.Seq.{getD-set-same, getD-set-other}
-use Rattle.notes.specs.Notes.{Notes, notesOf, withRoot, withRootsEnd, Whole}
+use Rattle.notes.specs.Notes.{Notes, notesOf, withRoot, withRootsEnd, Whole, maxRoots}
 use Rattle.tie.specs.Listing.{Pushed}
 
-room : {wk : List ℕ} → Whole wk → length (notesOf wk .roots) ≡ 512
+room : {wk : List ℕ} → Whole wk → length (notesOf wk .roots) ≡ maxRoots
 room whole = simp (length-take, length-drop) (omega (arith, whole .long))
 
 module _ {wk : List ℕ} (whole : Whole wk) (r end : ℕ) (is : end ≡ notesOf wk .rootsEnd) where
@@ -27,7 +27,7 @@ module _ {wk : List ℕ} (whole : Whole wk) (r end : ℕ) (is : end ≡ notesOf 
     only = λ i b. inl b;
   }
 
-  pub pushed-new : end < 512 → (mid wk′ : List ℕ) → notesOf mid ≡ withRoot end r (notesOf wk) → notesOf wk′ ≡ withRootsEnd (end + 1) (notesOf mid) → Whole wk′ → Pushed wk r wk′
+  pub pushed-new : end < maxRoots → (mid wk′ : List ℕ) → notesOf mid ≡ withRoot end r (notesOf wk) → notesOf wk′ ≡ withRootsEnd (end + 1) (notesOf mid) → Whole wk′ → Pushed wk r wk′
   pushed-new low mid wk′ a b w = record {
     whole = w;
     todo = ap (λ (n : Notes). n .todo) e;

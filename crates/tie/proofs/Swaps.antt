@@ -11,6 +11,7 @@ use Rattle.general.specs.Booleans.{bit}
 use Rattle.general.specs.Bits.{bit-le}
 use Rattle.general.specs.Times.{times}
 use Rattle.general.specs.Repeats.{times-cons, times-append}
+use Rattle.literal.specs.Literal.{variables}
 use Rattle.tally.specs.Ring.{Chain, Arc}
 use Rattle.tie.specs.Turning.{swapped}
 
@@ -31,7 +32,7 @@ pub swapped-other : (link : List ℕ) (r q z : ℕ) → (z ≡ r → ⊥) → (z
 swapped-other link r q z a b = getD-set-other (set link r (getD link q 0)) q z (getD link r 0) 0 b ∙ getD-set-other link r z (getD link q 0) 0 a
 
 -- the class of q goes over to r
-module _ (link v u : List ℕ) (r q : ℕ) (long : length link ≡ 257) (inside : r < 257) (inside-q : q < 257) (apart : r ≡ q → ⊥)
+module _ (link v u : List ℕ) (r q : ℕ) (long : length link ≡ variables) (inside : r < variables) (inside-q : q < variables) (apart : r ≡ q → ⊥)
     (moved : (z : ℕ) → bit (eqb (getD u z 0 / 2) r) ≡ bit (eqb (getD v z 0 / 2) r) + bit (eqb (getD v z 0 / 2) q)) where
   at-r : getD (swapped link r q) r 0 ≡ getD link q 0
   at-r = getD-set-other (set link r (getD link q 0)) q r (getD link r 0) 0 apart ∙ getD-set-same link r (getD link q 0) 0 (omega arith)

@@ -3,7 +3,7 @@ use mathlib.Core.Path.{_≡_, refl, ap, _∙_}
 use Prim.Native.Nat.{ℕ, _/_, _≤_, _<_}
 use native.Mathlib.Omega.{arith}
 use lib.ListN.{getD, length-set}
-use Rattle.literal.specs.Literal.{codeOf, literalAt, maxVariables}
+use Rattle.literal.specs.Literal.{codeOf, literalAt, maxVariables, variables}
 use Rattle.literal.proofs.Codes.{var-at}
 use Rattle.theory.specs.State.{replace}
 use Rattle.tally.specs.Tally.{Tally, withValue}
@@ -33,7 +33,7 @@ module _ {start : Tally} {x t : ℕ} (d : Turnable start x t) where
       apart : (var-t : ℕ) → var-t ≡ t / 2 → var-t ≡ x / 2 → ⊥
       apart k e h = omega (arith, d .lower)
 
-      pub turning-falls : size (x / 2) (u .values) 257 < size (x / 2) (tally .values) 257
+      pub turning-falls : size (x / 2) (u .values) variables < size (x / 2) (tally .values) variables
       turning-falls = rw set-to (falls opened (o .round) (apart _ (var-at t)) to is)
 
       module _ (n : ℕ) (next : n ≡ getD (u .links) p 0) where

@@ -8,7 +8,7 @@ use native.Mathlib.Decide.{decLe}
 use native.Mathlib.Omega.{arith}
 use lib.ListN.{getD, length}
 use Rattle.literal.specs.declared.Literal.{Literal}
-use Rattle.literal.specs.Literal.{var, opposite, codeOf, literalAt}
+use Rattle.literal.specs.Literal.{var, opposite, codeOf, literalAt, variables}
 use Rattle.literal.proofs.Codes.{at-code, var-at}
 use Rattle.theory.specs.Formula.{Clause}
 use Rattle.theory.specs.State.{assign, standing}
@@ -24,7 +24,7 @@ use Rattle.occurrences.proofs.Formulas.{formula-mem}
 use Rattle.tally.specs.Tally.{tallyOf, stateIn, countIn}
 use Rattle.tally.specs.Counts.{truesOf, opensOf, Exact}
 use Rattle.tally.proofs.Standing.{opens-standing, trues-standing}
-use Rattle.notes.specs.Notes.{notesOf, Listed, Gathered}
+use Rattle.notes.specs.Notes.{notesOf, Listed, Gathered, maxRoots}
 use Rattle.moves.specs.Sound.{Sound}
 use Rattle.moves.specs.Moving.{Noting, Moved}
 use Rattle.moves.proofs.Moves.{noting-trans}
@@ -105,7 +105,7 @@ module _ {ix st wk : List ℕ} {low high : ℕ} (d : Tieable ix st wk low high) 
       same-count g = ap (λ (l : List ℕ). getD l g 0) (j .counts)
 
       module _ {wk₁ : List ℕ} {n : ℕ} (k : Gathering ix st wk (high / 2) wk₁ n) where
-        pub tying-room : notesOf wk₁ .rootsEnd < 512
+        pub tying-room : notesOf wk₁ .rootsEnd < maxRoots
         tying-room = omega (arith, k .beside .rootsEnd, s .roots-room, j .fewer)
 
         module _ {wk₂ : List ℕ} (p : Pushed wk₁ (low / 2) wk₂) where
@@ -122,7 +122,7 @@ module _ {ix st wk : List ℕ} {low high : ℕ} (d : Tieable ix st wk low high) 
             linked = j .linked;
             classes = j .classes;
             whole = p .whole;
-            todo-room = omega (arith, same-todo-end, j .loads (width ix) 257, s .todo-room);
+            todo-room = omega (arith, same-todo-end, j .loads (width ix) variables, s .todo-room);
             roots-room = omega (arith, p .one, k .beside .rootsEnd, j .fewer, s .roots-room);
             todo-inside = λ i h. rw same-todo (s .todo-inside i (omega (arith, same-todo-end)));
             roots-inside = λ i h. ⊎-elim
@@ -145,7 +145,7 @@ module _ {ix st wk : List ℕ} {low high : ℕ} (d : Tieable ix st wk low high) 
             grows = omega (arith, same-todo-end);
             kept = λ i h. ap (λ (l : List ℕ). getD l i 0) same-todo;
             few = λ g h a b. absurd (omega (arith, same-count g));
-            paid = omega (arith, same-todo-end, j .loads (width ix) 257);
+            paid = omega (arith, same-todo-end, j .loads (width ix) variables);
             never = λ g h a. omega (arith, same-count g);
             won = λ g h a b. absurd (omega (arith, same-count g));
           }

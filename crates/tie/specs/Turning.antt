@@ -3,7 +3,7 @@ use mathlib.Core.Path.{_≡_}
 use mathlib.Core.List.{List}
 use Prim.Native.Nat.{ℕ, _+_, _*_, _/_, _<_}
 use lib.ListN.{getD, set, length}
-use Rattle.literal.specs.Literal.{literalAt, maxVariables, codes}
+use Rattle.literal.specs.Literal.{literalAt, maxVariables, codes, variables}
 use Rattle.theory.specs.State.{assign}
 use Rattle.state.specs.State.{stateOf}
 use Rattle.tally.specs.Tally.{Tally}
@@ -13,8 +13,8 @@ use Rattle.tally.specs.Counts.{load, roots}
 -- x and t are codes of literals of two open roots, and t's is the lower
 pub record Turnable (tally : Tally) (x t : ℕ) : Type 0 where
   pub classes : Classes (tally .values) (tally .links)
-  pub long : length (tally .values) ≡ 257
-  pub linked : length (tally .links) ≡ 257
+  pub long : length (tally .values) ≡ variables
+  pub linked : length (tally .links) ≡ variables
   pub opened : 1 < t
   pub lower : t / 2 < x / 2
   pub below : x < codes
@@ -24,15 +24,15 @@ pub record Turnable (tally : Tally) (x t : ℕ) : Type 0 where
 -- x stands for t, and its class follows
 pub record Turned (tally : Tally) (x t : ℕ) (after : Tally) : Type 0 where
   pub state : stateOf (after .values) ≡ assign (literalAt x) (literalAt t) (stateOf (tally .values))
-  pub long : length (after .values) ≡ 257
+  pub long : length (after .values) ≡ variables
   pub links : after .links ≡ tally .links
   pub counts : after .counts ≡ tally .counts
 
 -- and the two rings are one: what is open stays so, and one root fewer is
 pub record Joined (tally : Tally) (x t : ℕ) (after : Tally) : Type 0 where
   pub state : stateOf (after .values) ≡ assign (literalAt x) (literalAt t) (stateOf (tally .values))
-  pub long : length (after .values) ≡ 257
-  pub linked : length (after .links) ≡ 257
+  pub long : length (after .values) ≡ variables
+  pub linked : length (after .links) ≡ variables
   pub counts : after .counts ≡ tally .counts
   pub classes : Classes (after .values) (after .links)
   pub loads : (w : ℕ → ℕ) (n : ℕ) → load w (after .values) n ≡ load w (tally .values) n

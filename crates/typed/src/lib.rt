@@ -10,7 +10,7 @@ use scan::Scanned;
 const MAX_TEXT: usize = 32768;
 
 // One byte past the longest text is enough to tell that a text is too long.
-pub const INPUT: usize = 32769;
+pub const INPUT: usize = MAX_TEXT + 1;
 
 // Enough for the longest strip, and for every message.
 pub const OUTPUT: usize = save::MAX_SAVED;

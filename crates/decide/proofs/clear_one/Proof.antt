@@ -5,9 +5,6 @@ use Rattle.moves.proofs.Moves.{moved-refl}
 use Rattle.decide.proofs.Clearing.{asks-decide, passed}
 use Rattle.decide.proofs.clear_one.Statement.{statement}
 use Rattle.decide.proofs.clear_one.Tie as tie
-use Rattle.decide.proofs.clear_one.Reads as reads
-use Rattle.decide.proofs.clear_one.Lts as lts
-use Rattle.decide.proofs.decide.Reads as decide-reads
 
 returns : tie.Need-returns
 returns c = (moved-refl (c .before .pre .sound), inl (inl (c .if1 .taken), refl))

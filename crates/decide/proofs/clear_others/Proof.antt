@@ -4,12 +4,6 @@ use native.Mathlib.Omega.{arith}
 use Rattle.decide.proofs.Clearing.{Along, along-begins, place, known, stands, along-dead, along-goes, along-ends}
 use Rattle.decide.proofs.clear_others.Statement.{statement}
 use Rattle.decide.proofs.clear_others.Tie as tie
-use Rattle.decide.proofs.clear_others.Reads as reads
-use Rattle.decide.proofs.clear_others.Lts as lts
-use Rattle.decide.proofs.clear_one.Reads as clear-one-reads
-use Rattle.occurrences.proofs.end_of.Reads as end-of-reads
-use Rattle.occurrences.proofs.start_of.Reads as start-of-reads
-use Rattle.tally.proofs.value_at.Reads as value-at-reads
 
 abbrev Inv-loop : tie.InvT-loop
 Inv-loop index state₀ work₀ g kept start end i₀ state work i = Along index state₀ work₀ g kept start end state work i

@@ -7,6 +7,7 @@ use denote.Ref.{now}
 use lib.Dec.{eqb}
 use lib.ListN.{getD}
 use Rattle.general.specs.Booleans.{bit}
+use Rattle.literal.specs.Literal.{variables}
 use Rattle.tally.specs.Tally.{tallyOf}
 use Rattle.tally.proofs.Rings.{size}
 use Rattle.notes.specs.Notes.{notesOf, withTodoEnd, Whole}
@@ -14,20 +15,12 @@ use Rattle.decide.specs.Members.{ended}
 use Rattle.decide.proofs.Deciding.{Turning, turning-begins, inside, asks, turning-dead, turning-falls, end-low, turning-goes, turning-ends}
 use Rattle.decide.proofs.decide.Statement.{statement}
 use Rattle.decide.proofs.decide.Tie as tie
-use Rattle.decide.proofs.decide.Reads as reads
-use Rattle.decide.proofs.decide.Lts as lts
-use Rattle.decide.proofs.becomes.Reads as becomes-reads
-use Rattle.decide.proofs.member.Reads as member-reads
-use Rattle.notes.proofs.set_todo_end.Reads as set-todo-end-reads
-use Rattle.notes.proofs.todo_end.Reads as todo-end-reads
-use Rattle.tally.proofs.link_of.Reads as link-of-reads
-use Rattle.tally.proofs.value_of.Reads as value-of-reads
 
 abbrev Inv-loop : tie.InvT-loop
 Inv-loop index state₀ work₀ x root end₀ p₀ state work end p = Turning index state₀ work₀ x (tallyOf state) (ended end work) p × Whole work
 
 abbrev μ-loop : tie.MeasureT-loop
-μ-loop index state₀ work₀ x root end₀ p₀ state work end p = size (x / 2) (tallyOf state .values) 257
+μ-loop index state₀ work₀ x root end₀ p₀ state work end p = size (x / 2) (tallyOf state .values) variables
 
 -- what the member becomes
 told : (c : tie.After-becomes Inv-loop μ-loop) → let l = c .before .before .before in

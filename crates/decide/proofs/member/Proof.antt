@@ -3,20 +3,13 @@ use mathlib.Core.Path.{ap}
 use Prim.Native.Nat.{_+_, _-_, _<_}
 use borrow.Author.Needs.{needs}
 use native.Mathlib.Omega.{arith}
+use Rattle.literal.specs.Literal.{maxTable}
 use Rattle.tally.specs.Tally.{tallyOf}
 use Rattle.notes.specs.Notes.{withTodoEnd, Whole}
 use Rattle.decide.specs.Members.{ended}
 use Rattle.decide.proofs.Walking.{Walking, todo-long, walk-begins, known, free, inside, some-left, not-two, walk-goes, walk-empty, walk-two, member-dead, member-taken}
 use Rattle.decide.proofs.member.Statement.{statement}
 use Rattle.decide.proofs.member.Tie as tie
-use Rattle.decide.proofs.member.Reads as reads
-use Rattle.decide.proofs.member.Lts as lts
-use Rattle.decide.proofs.noted.Reads as noted-reads
-use Rattle.decide.proofs.recount.Reads as recount-reads
-use Rattle.notes.proofs.put_todo.Reads as put-todo-reads
-use Rattle.occurrences.proofs.first_of.Reads as first-of-reads
-use Rattle.occurrences.proofs.occurrence_at.Reads as occurrence-at-reads
-use Rattle.tally.proofs.set_value.Reads as set-value-reads
 
 abbrev Inv-loop : tie.InvT-loop
 Inv-loop index state₀ work₀ from p to end₀ first last j₀ state work end j =
@@ -61,7 +54,7 @@ returns-2 c =
     (member-dead (v .before .before .pre .0) (v .set-value .ensures) (q .0) _ _ _ (u .recount .ensures .1) d, q .1)
 
 -- a note has room
-end-free : (c : tie.In-loop Inv-loop μ-loop) → c .before .loop .end < 2560
+end-free : (c : tie.In-loop Inv-loop μ-loop) → c .before .loop .end < maxTable
 end-free c = free (c .before .loop .inv .0) (c .loop-test .taken)
 
 loop-again : tie.Need-loop-again Inv-loop μ-loop

@@ -6,11 +6,6 @@ use lib.Dec.{eqb}
 use Rattle.general.specs.Bits.{bit-le}
 use Rattle.decide.proofs.recount.Statement.{statement}
 use Rattle.decide.proofs.recount.Tie as tie
-use Rattle.decide.proofs.recount.Reads as reads
-use Rattle.decide.proofs.recount.Lts as lts
-use Rattle.decide.proofs.gain.Reads as gain-reads
-use Rattle.tally.proofs.count_of.Reads as count-of-reads
-use Rattle.tally.proofs.set_count.Reads as set-count-reads
 
 add-count : tie.Need-add-count
 add-count c = let a = c .before .before .before .args in omega (arith, bit-le (eqb (a .occurrence % 2) (a .to)), c .gain .ensures)

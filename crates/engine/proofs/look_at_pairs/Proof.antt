@@ -4,7 +4,7 @@ use mathlib.Core.Path.{_≡_, sym, _∙_}
 use native.Mathlib.Omega.{arith}
 use borrow.Author.Needs.{needs}
 use Rattle.literal.specs.Literal.{maxVariables}
-use Rattle.notes.specs.Notes.{notesOf}
+use Rattle.notes.specs.Notes.{notesOf, maxRoots}
 use Rattle.engine.proofs.Turns.{tieable, ready-pair, turned-shut, turned-looked, turned-by-pair}
 use Rattle.engine.proofs.look_at_pairs.Statement.{statement}
 use Rattle.engine.proofs.look_at_pairs.Tie as tie
@@ -18,7 +18,7 @@ known c =
     let e = c .before .before in
     rw (c .root-at .ensures) (e .before .before .pre .0 .sound .roots-inside (e .roots-end .result - 1) (omega (arith, last e)))
 
-short : (c : tie.After-roots-end) → c .roots-end .result ≤ 512
+short : (c : tie.After-roots-end) → c .roots-end .result ≤ maxRoots
 short c = omega (arith, c .roots-end .ensures, c .before .before .pre .0 .sound .roots-room)
 
 returns : tie.Need-returns

@@ -1,20 +1,17 @@
 -- `gather` meets its contract, by the laws of Gathers.
 use borrow.Author.Needs.{needs}
+use Rattle.literal.specs.Literal.{variables}
 use Rattle.tally.specs.Tally.{tallyOf}
 use Rattle.gather.proofs.Ahead.{dist, falls}
 use Rattle.gather.proofs.Gathers.{Gathers, gathers-begins, gathers-asks, gathers-goes, gathers-ends}
 use Rattle.gather.proofs.gather.Statement.{statement}
 use Rattle.gather.proofs.gather.Tie as tie
-use Rattle.gather.proofs.gather.Reads as reads
-use Rattle.gather.proofs.gather.Lts as lts
-use Rattle.gather.proofs.gather_variable.Reads as gather-variable-reads
-use Rattle.tally.proofs.link_of.Reads as link-of-reads
 
 abbrev Inv-loop : tie.InvT-loop
 Inv-loop index state work₀ r root end₀ p₀ work end p = Gathers index state work₀ r work end p
 
 abbrev μ-loop : tie.MeasureT-loop
-μ-loop index state work₀ r root end₀ p₀ work end p = dist (tallyOf state .links) r 257 p
+μ-loop index state work₀ r root end₀ p₀ work end p = dist (tallyOf state .links) r variables p
 
 loop-holds : tie.Need-loop-holds Inv-loop μ-loop
 loop-holds c = gathers-begins (c .pre .0) (c .pre .1)

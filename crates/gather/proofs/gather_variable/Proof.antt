@@ -6,13 +6,6 @@ use Rattle.gather.proofs.Waits.{place-known, clause-known}
 use Rattle.gather.proofs.Collects.{Collects, collects-begins, room-left, collects-goes, collects-ends}
 use Rattle.gather.proofs.gather_variable.Statement.{statement}
 use Rattle.gather.proofs.gather_variable.Tie as tie
-use Rattle.gather.proofs.gather_variable.Reads as reads
-use Rattle.gather.proofs.gather_variable.Lts as lts
-use Rattle.gather.proofs.wide.Reads as wide-reads
-use Rattle.notes.proofs.put_gathered.Reads as put-gathered-reads
-use Rattle.occurrences.proofs.first_of.Reads as first-of-reads
-use Rattle.occurrences.proofs.occurrence_at.Reads as occurrence-at-reads
-use Rattle.tally.proofs.count_of.Reads as count-of-reads
 
 abbrev Inv-loop : tie.InvT-loop
 Inv-loop index state work₀ p start end₀ first last j₀ work end j = Collects index state work₀ p start first last work end j

@@ -1,20 +1,17 @@
 -- `stands_live` meets its contract, by the laws of Gathers.
 use borrow.Author.Needs.{needs}
+use Rattle.literal.specs.Literal.{variables}
 use Rattle.tally.specs.Tally.{tallyOf}
 use Rattle.gather.proofs.Ahead.{dist, falls}
 use Rattle.gather.proofs.Gathers.{Looks, looks-begins, looks-known, looks-finds, looks-goes, looks-ends}
 use Rattle.gather.proofs.stands_live.Statement.{statement}
 use Rattle.gather.proofs.stands_live.Tie as tie
-use Rattle.gather.proofs.stands_live.Reads as reads
-use Rattle.gather.proofs.stands_live.Lts as lts
-use Rattle.gather.proofs.stands_wide.Reads as stands-wide-reads
-use Rattle.tally.proofs.link_of.Reads as link-of-reads
 
 abbrev Inv-loop : tie.InvT-loop
 Inv-loop index state r p₀ p = Looks index state r p
 
 abbrev μ-loop : tie.MeasureT-loop
-μ-loop index state r p₀ p = dist (tallyOf state .links) r 257 p
+μ-loop index state r p₀ p = dist (tallyOf state .links) r variables p
 
 stands-wide-requires : tie.Need-stands-wide-requires Inv-loop μ-loop
 stands-wide-requires c κs = (c .before .loop .inv .at-root .index, looks-known (c .before .loop .inv) (c .link-of .result) (c .link-of .ensures))

@@ -9,12 +9,6 @@ use Rattle.gather.specs.Gathering.{isWide}
 use Rattle.gather.proofs.Waits.{Waits, waits-begins, place-known, clause-known, here-stands, waits-goes, waits-ends}
 use Rattle.gather.proofs.stands_wide.Statement.{statement}
 use Rattle.gather.proofs.stands_wide.Tie as tie
-use Rattle.gather.proofs.stands_wide.Reads as reads
-use Rattle.gather.proofs.stands_wide.Lts as lts
-use Rattle.gather.proofs.wide.Reads as wide-reads
-use Rattle.occurrences.proofs.first_of.Reads as first-of-reads
-use Rattle.occurrences.proofs.occurrence_at.Reads as occurrence-at-reads
-use Rattle.tally.proofs.count_of.Reads as count-of-reads
 
 abbrev Inv-loop : tie.InvT-loop
 Inv-loop index state p first last j₀ j = Waits index state (λ g. ⊥) p first last j

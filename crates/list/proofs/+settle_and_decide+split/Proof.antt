@@ -1,5 +1,5 @@
 -- The walk: `settle_and_decide` and `split` meet their contracts together. The number of open variables falls at each split.
-use Prim.Native.Nat.{ℕ, _<_, _≤_, _+_, _*_, _-_, suc}
+use Prim.Native.Nat.{ℕ, _≤_, _+_, _*_, _-_, suc, _<_}
 use mathlib.Core.Path.{_≡_, refl, ap, sym, _∙_}
 use mathlib.Core.List.{List, [], _∷_}
 use mathlib.Core.Option.{none, some}
@@ -12,7 +12,7 @@ use mir.Val.{Fits}
 use types.Run.{miss}
 use borrow.Fn.PlainCycle.{Measures, is, falls, and}
 use Rattle.literal.specs.declared.Literal.the-variants.{Pos}
-use Rattle.literal.specs.Literal.{TRUE, FALSE, var, codeOf, literalAt}
+use Rattle.literal.specs.Literal.{TRUE, FALSE, var, codeOf, literalAt, opposite}
 use Rattle.theory.specs.Listing.{openVariable, decideOpen}
 use Rattle.theory.specs.Formula.{Choice}
 use Rattle.theory.specs.State.{State, opens, assign}
@@ -42,6 +42,7 @@ use Rattle.list.proofs.below.Reads as below-reads
 use Rattle.list.proofs.open_variable.Reads as open-variable-reads
 use Rattle.list.proofs.through.Reads as through-reads
 use Rattle.list.proofs.write_row.Reads as write-row-reads
+use Rattle.literal.proofs.Literal.new.Reads as new-reads
 use Rattle.literal.proofs.Literal.code.Reads as code-reads
 use Rattle.literal.proofs.Literal.opposite.Reads as opposite-reads
 use Rattle.side.proofs.begin.Reads as begin-reads
@@ -72,6 +73,8 @@ decide-calls t = (propagate-reads.Asked, propagate-reads.Learnt, open-variable-r
 
 abbrev split-calls : ℕ → split-lts.Claims
 split-calls t = (
+  new-reads.Asked,
+  new-reads.Learnt,
   code-reads.Asked,
   code-reads.Learnt,
   begin-reads.Asked,
@@ -127,7 +130,7 @@ SecondWalked t = split-lts.After-settle-and-decide2 (split-calls t) (split-at t)
 
 -- where a split began, what its first side did, and what its second side began from
 abbrev start : (t : ℕ) → FirstBegun t → split-lts.Start (split-calls t) (split-at t) split.Post
-start t b = b .before .before .before .before .before .before .before .before
+start t b = b .before .before .before .before .before .before .before .before .before
 
 abbrev first : (t : ℕ) → FirstWalked t → FirstBegun t
 first t f = f .before .before .before .before .before .before
@@ -145,12 +148,16 @@ abbrev earlier : (t : ℕ) → SecondWalked t → FirstWalked t
 earlier t w = before t (second t w)
 
 abbrev some-left : (t : ℕ) → FirstWalked t → split-lts.Else1 (split-calls t) (split-at t) split.Post
-some-left t f = f .before .before .before .before .before .before .before .before .before .before .before
+some-left t f = f .before .before .before .before .before .before .before .before .before .before .before .before
+
+-- the literal of the side that is left out
+made : (t : ℕ) (b : FirstBegun t) → b .before .before .before .before .new .result ≡ Pos (start t b .args .p .0)
+made t b = b .before .before .before .before .new .ensures
 
 first-is : (t : ℕ) (b : FirstBegun t) →
     let a = start t b .args in
     assign (literalAt (b .before .code .result)) FALSE (stateIn (now (a .state))) ≡ assign (Pos (a .p .0)) FALSE (stateIn (now (a .state)))
-first-is t b = let a = start t b .args in out-assigns (a .p .0) (b .before .code .result) (b .before .code .ensures) (stateIn (now (a .state)))
+first-is t b = let a = start t b .args in out-assigns (a .p .0) (b .before .code .result) (b .before .code .ensures ∙ ap codeOf (made t b)) (stateIn (now (a .state)))
 
 -- what the first side is given, its run from the left-out state, and what it has done
 abbrev firstLevel : (t : ℕ) → FirstWalked t → Level
@@ -187,7 +194,7 @@ rows-fit t f = some-left t f .before .struct-known .given .1 .1 .1 .0
 second-is : (t : ℕ) (b : SecondBegun t) →
     let a = origin t (before t b) .args in
     assign (literalAt (b .before .code2 .result)) FALSE (stateIn (now (a .state))) ≡ assign (Pos (a .p .0)) TRUE (stateIn (now (a .state)))
-second-is t b = let a = origin t (before t b) .args in taken-assigns (a .p .0) (b .before .code2 .result) (b .before .code2 .ensures ∙ ap codeOf (b .before .before .opposite .ensures)) (stateIn (now (a .state)))
+second-is t b = let a = origin t (before t b) .args in taken-assigns (a .p .0) (b .before .code2 .result) (b .before .code2 .ensures ∙ ap codeOf (b .before .before .opposite .ensures ∙ ap opposite (made t (first t (before t b))))) (stateIn (now (a .state)))
 
 -- the trees from both sides
 abbrev walksOf : (t : ℕ) → FirstWalked t → ℕ → State → Run Choice
@@ -279,11 +286,12 @@ pub +settle-and-decide+split-spec : {M : Type 1} → statement M
     (λ t. split-lts.spec (split-calls t) (split-at t) split.Post
     (λ c. let s = c .before .before .before in let a = s .args in
     (none-left (a .level) (a .p .0) (tree (decideOpen (a .level .variables) (formulaOf (now (a .index)))) (suc (a .level .variables))) _ _ (c .if1 .taken) _, s .pre .1 .whole))
-    (λ c κs. let k = c .before .before .before .before .before .before .pre .1 in omega (arith, branch-open k .inside, k .lasting .rowable .small))
+    (λ c κs. search needs)
+    (λ c κs. let k = c .before .before .before .before .before .before .before .pre .1 in omega (arith, ap var (c .before .before .new .ensures), branch-open k .inside, k .lasting .rowable .small))
     (λ c κs.
-    let k = c .before .before .before .before .before .before .before .pre .1 in
-    side-siding (k .calm) (k .lasting .rowable .small) (k .well) (branch-open k) _ (omega (arith, c .code .ensures)) _ (k .whole))
-    (λ c. omega (arith, c .before .before .before .before .before .before .before .before .if1 .left))
+    let k = c .before .before .before .before .before .before .before .before .pre .1 in
+    side-siding (k .calm) (k .lasting .rowable .small) (k .well) (branch-open k) _ (omega (arith, c .code .ensures ∙ ap codeOf (c .before .before .before .new .ensures))) _ (k .whole))
+    (λ c. omega (arith, c .before .before .before .before .before .before .before .before .before .if1 .left))
     (λ c κs. tt)
     (λ c κs.
     let g = c .before .before .before .before .before in
@@ -308,11 +316,11 @@ pub +settle-and-decide+split-spec : {M : Type 1} → statement M
     ))
     (λ c. let f = c .before .before .before .before .before in omega (arith, first-count t f, left-fits t f))
     (λ c κs. tt)
-    (λ c κs. let k = origin t (c .before .before .before .before .before .before .before .before) .pre .1 in omega (arith, ap var (c .opposite .ensures), branch-open k .inside, k .lasting .rowable .small))
+    (λ c κs. let f = c .before .before .before .before .before .before .before .before in let k = origin t f .pre .1 in omega (arith, ap var (c .opposite .ensures ∙ ap opposite (made t (first t f))), branch-open k .inside, k .lasting .rowable .small))
     (λ c κs.
     let f = c .before .before .before .before .before .before .before .before .before in
     let k = origin t f .pre .1 in
-    side-siding (k .calm) (k .lasting .rowable .small) (k .well) (branch-open k) _ (omega (arith, c .code2 .ensures ∙ ap codeOf (c .before .opposite .ensures))) _ (f .settle-and-decide .ensures .1))
+    side-siding (k .calm) (k .lasting .rowable .small) (k .well) (branch-open k) _ (omega (arith, c .code2 .ensures ∙ ap codeOf (c .before .opposite .ensures ∙ ap opposite (made t (first t f))))) _ (f .settle-and-decide .ensures .1))
     (λ c. omega (arith, first-count t (c .before .before .before .before .before .before .before .before .before .before .before .before .before)))
     (λ c. let f = c .before .before .before .before .before .before .before .before .before .before .before .before .before .before .before in omega (arith, first-rows t f, rows-fit t f))
     (λ c κs. tt)

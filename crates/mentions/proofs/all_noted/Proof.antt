@@ -2,6 +2,7 @@
 use Prim.Native.Nat.{_+_, _-_, _<_}
 use borrow.Author.Tests.{not-true, not-false}
 use native.Mathlib.Omega.{arith}
+use Rattle.literal.specs.Literal.{variables}
 use Rattle.mentions.proofs.Noting.{Seen, seen-next, seen-all, not-seen}
 use Rattle.mentions.proofs.all_noted.Statement.{statement}
 use Rattle.mentions.proofs.all_noted.Tie as tie
@@ -12,7 +13,7 @@ Inv-loop mentioned n p₀ p = Seen mentioned p
 abbrev μ-loop : tie.MeasureT-loop
 μ-loop mentioned n p₀ p = n - p
 
-within : (c : tie.In-loop Inv-loop μ-loop) → c .before .loop .p + 1 < 257
+within : (c : tie.In-loop Inv-loop μ-loop) → c .before .loop .p + 1 < variables
 within c = omega (arith, c .loop-test .taken, c .before .before .pre)
 
 pub all-noted-spec : {M : Type 1} → statement M

@@ -5,8 +5,6 @@ use native.Mathlib.Omega.{arith}
 use Rattle.notes.proofs.Parts.{reads-gathered}
 use Rattle.notes.proofs.gathered_at.Statement.{statement}
 use Rattle.notes.proofs.gathered_at.Tie as tie
-use Rattle.notes.proofs.gathered_at.Reads as reads
-use Rattle.notes.proofs.gathered_at.Lts as lts
 
 returns : tie.Need-returns
 returns c = reads-gathered (now (c .before .args .work)) (c .before .args .i) (omega (arith, c .before .pre))

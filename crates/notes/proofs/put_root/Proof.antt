@@ -1,12 +1,9 @@
 -- `put_root` meets its contract.
 use borrow.Author.Needs.{needs}
 use denote.Ref.{now}
-use native.Mathlib.Omega.{arith}
 use Rattle.notes.proofs.Parts.{writes-root, writes-whole}
 use Rattle.notes.proofs.put_root.Statement.{statement}
 use Rattle.notes.proofs.put_root.Tie as tie
-use Rattle.notes.proofs.put_root.Reads as reads
-use Rattle.notes.proofs.put_root.Lts as lts
 
 returns : tie.Need-returns
 returns c = (writes-root (now (c .args .work)) (c .pre .1) (c .args .r) (c .args .i) (c .pre .0), writes-whole (now (c .args .work)) (c .pre .1) (c .args .r) _)

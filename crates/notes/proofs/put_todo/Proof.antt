@@ -1,12 +1,9 @@
 -- `put_todo` meets its contract.
 use borrow.Author.Needs.{needs}
 use denote.Ref.{now}
-use native.Mathlib.Omega.{arith}
 use Rattle.notes.proofs.Parts.{writes-todo, writes-whole}
 use Rattle.notes.proofs.put_todo.Statement.{statement}
 use Rattle.notes.proofs.put_todo.Tie as tie
-use Rattle.notes.proofs.put_todo.Reads as reads
-use Rattle.notes.proofs.put_todo.Lts as lts
 
 returns : tie.Need-returns
 returns c = (writes-todo (now (c .args .work)) (c .pre .1) (c .args .g) (c .args .i) (c .pre .0), writes-whole (now (c .args .work)) (c .pre .1) (c .args .g) _)

@@ -5,8 +5,6 @@ use native.Mathlib.Omega.{arith}
 use Rattle.notes.proofs.Parts.{reads-root}
 use Rattle.notes.proofs.root_at.Statement.{statement}
 use Rattle.notes.proofs.root_at.Tie as tie
-use Rattle.notes.proofs.root_at.Reads as reads
-use Rattle.notes.proofs.root_at.Lts as lts
 
 returns : tie.Need-returns
 returns c = reads-root (now (c .before .args .work)) (c .before .args .i) (omega (arith, c .before .pre))

@@ -1,12 +1,9 @@
 -- `set_roots_end` meets its contract.
 use borrow.Author.Needs.{needs}
 use denote.Ref.{now}
-use native.Mathlib.Omega.{arith}
 use Rattle.notes.proofs.Parts.{writes-roots-end, writes-whole}
 use Rattle.notes.proofs.set_roots_end.Statement.{statement}
 use Rattle.notes.proofs.set_roots_end.Tie as tie
-use Rattle.notes.proofs.set_roots_end.Reads as reads
-use Rattle.notes.proofs.set_roots_end.Lts as lts
 
 returns : tie.Need-returns
 returns c = (writes-roots-end (now (c .args .work)) (c .pre .1) (c .args .n), writes-whole (now (c .args .work)) (c .pre .1) (c .args .n) _)

@@ -1,12 +1,9 @@
 -- `set_todo_end` meets its contract.
 use borrow.Author.Needs.{needs}
 use denote.Ref.{now}
-use native.Mathlib.Omega.{arith}
 use Rattle.notes.proofs.Parts.{writes-todo-end, writes-whole}
 use Rattle.notes.proofs.set_todo_end.Statement.{statement}
 use Rattle.notes.proofs.set_todo_end.Tie as tie
-use Rattle.notes.proofs.set_todo_end.Reads as reads
-use Rattle.notes.proofs.set_todo_end.Lts as lts
 
 returns : tie.Need-returns
 returns c = (writes-todo-end (now (c .args .work)) (c .pre .1) (c .args .n), writes-whole (now (c .args .work)) (c .pre .1) (c .args .n) _)

@@ -5,8 +5,6 @@ use native.Mathlib.Omega.{arith}
 use Rattle.notes.proofs.Parts.{reads-todo}
 use Rattle.notes.proofs.todo_at.Statement.{statement}
 use Rattle.notes.proofs.todo_at.Tie as tie
-use Rattle.notes.proofs.todo_at.Reads as reads
-use Rattle.notes.proofs.todo_at.Lts as lts
 
 returns : tie.Need-returns
 returns c = reads-todo (now (c .before .args .work)) (c .before .args .i) (omega (arith, c .before .pre))

@@ -5,11 +5,6 @@ use Rattle.literal.specs.Literal.{codes}
 use Rattle.pairs.proofs.Reading.{start-ends, place-inside, code-known, value-below, MarkWalk, mark-begins, mark-goes, mark-ends}
 use Rattle.pairs.proofs.mark_clause.Statement.{statement}
 use Rattle.pairs.proofs.mark_clause.Tie as tie
-use Rattle.pairs.proofs.mark_clause.Reads as reads
-use Rattle.pairs.proofs.mark_clause.Lts as lts
-use Rattle.occurrences.proofs.end_of.Reads as end-of-reads
-use Rattle.occurrences.proofs.start_of.Reads as start-of-reads
-use Rattle.tally.proofs.value_at.Reads as value-at-reads
 
 abbrev Inv-loop : tie.InvT-loop
 Inv-loop index state g marks₀ start end i₀ marks i = MarkWalk index state g start end marks i

@@ -6,14 +6,6 @@ use Rattle.pairs.proofs.Meeting.{none-crosses, one-alone, has-common, c
 use Rattle.pairs.proofs.Reading.{start-ends, place-inside, code-known, value-below, MeetWalk, meet-begins, meet-goes, met-all}
 use Rattle.pairs.proofs.meet.Statement.{statement}
 use Rattle.pairs.proofs.meet.Tie as tie
-use Rattle.pairs.proofs.meet.Reads as reads
-use Rattle.pairs.proofs.meet.Lts as lts
-use Rattle.occurrences.proofs.end_of.Reads as end-of-reads
-use Rattle.occurrences.proofs.start_of.Reads as start-of-reads
-use Rattle.pairs.proofs.choose.Reads as choose-reads
-use Rattle.pairs.proofs.mark_of.Reads as mark-of-reads
-use Rattle.tally.proofs.opposite.Reads as opposite-reads
-use Rattle.tally.proofs.value_at.Reads as value-at-reads
 
 abbrev Inv-loop : tie.InvT-loop
 Inv-loop index state marks h common₀ crossing₀ again₀ start end i₀ common crossing again i = MeetWalk index state marks h start end common crossing again i

@@ -7,13 +7,6 @@ use Rattle.pairs.specs.Meeting.{Readable}
 use Rattle.pairs.proofs.Earlier.{k-inside, k-readable, k-apart, Earlier, earlier-begins, earlier-asks, earlier-goes, earlier-common, earlier-crossed, earlier-ends}
 use Rattle.pairs.proofs.meet_earlier.Statement.{statement}
 use Rattle.pairs.proofs.meet_earlier.Tie as tie
-use Rattle.pairs.proofs.meet_earlier.Reads as reads
-use Rattle.pairs.proofs.meet_earlier.Lts as lts
-use Rattle.gather.proofs.wide.Reads as wide-reads
-use Rattle.notes.proofs.gathered_at.Reads as gathered-at-reads
-use Rattle.pairs.proofs.mark_clause.Reads as mark-clause-reads
-use Rattle.pairs.proofs.meet_wide.Reads as meet-wide-reads
-use Rattle.tally.proofs.count_of.Reads as count-of-reads
 
 abbrev Inv-loop : tie.InvT-loop
 Inv-loop index state work k g marks j₀ j = Earlier index state work k g marks j

@@ -3,11 +3,6 @@ use borrow.Author.Needs.{needs}
 use Rattle.pairs.proofs.Earlier.{met-apart, met-readable, met-as}
 use Rattle.pairs.proofs.meet_wide.Statement.{statement}
 use Rattle.pairs.proofs.meet_wide.Tie as tie
-use Rattle.pairs.proofs.meet_wide.Reads as reads
-use Rattle.pairs.proofs.meet_wide.Lts as lts
-use Rattle.gather.proofs.wide.Reads as wide-reads
-use Rattle.pairs.proofs.meet.Reads as meet-reads
-use Rattle.tally.proofs.count_of.Reads as count-of-reads
 
 returns : tie.Need-returns
 returns c =

@@ -11,11 +11,6 @@ use Rattle.pairs.proofs.Pairing.{Pairing, pairing-root, pairing-begins,
 use Rattle.pairs.proofs.Pairing.{pairing-decides, pairing-dead, pairing-decided, roots-fall}
 use Rattle.pairs.proofs.pairs_at.Statement.{statement}
 use Rattle.pairs.proofs.pairs_at.Tie as tie
-use Rattle.pairs.proofs.pairs_at.Reads as reads
-use Rattle.pairs.proofs.pairs_at.Lts as lts
-use Rattle.decide.proofs.decide.Reads as decide-reads
-use Rattle.gather.proofs.gather.Reads as gather-reads
-use Rattle.pairs.proofs.meet_earlier.Reads as meet-earlier-reads
 
 abbrev Inv-loop : tie.InvT-loop
 Inv-loop index state₀ work₀ r end k₀ state work k = Pairing index state₀ work₀ r end state work k

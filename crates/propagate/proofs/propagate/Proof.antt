@@ -4,7 +4,7 @@ use Prim.Native.Nat.{_+_}
 use native.Mathlib.Omega.{arith}
 use borrow.Author.Needs.{needs}
 use lib.ListN.{length}
-use Rattle.literal.specs.Literal.{maxVariables}
+use Rattle.literal.specs.Literal.{maxVariables, variables}
 use Rattle.theory.specs.Formula.{clauses}
 use Rattle.theory.specs.State.{opens, WellFormed}
 use Rattle.theory.specs.Reasons.{explained, unexplained, explain}
@@ -33,7 +33,7 @@ abbrev μ-loop : tie.MeasureT-loop
 loop-holds : tie.Need-loop-holds Inv-loop μ-loop
 loop-holds c =
     let a = c .args in
-    (c .pre .0, c .pre .1 .1 .0, ap (explain (a .n) (clauses (a .table .now))) (uncredited 257 (stateOf (a .state .values))), refl, noted-none _ _ _, noted-none _ _ _)
+    (c .pre .0, c .pre .1 .1 .0, ap (explain (a .n) (clauses (a .table .now))) (uncredited variables (stateOf (a .state .values))), refl, noted-none _ _ _, noted-none _ _ _)
 
 returns : tie.Need-returns Inv-loop μ-loop
 returns c =

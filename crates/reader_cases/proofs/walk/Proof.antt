@@ -1,6 +1,6 @@
 -- `walk` stays on the strip and ends, since each command takes a byte. It ensures nothing else: the program's stored output says the rest.
 use mathlib.Core.Path.{sym, _∙_}
-use Prim.Native.Nat.{_-_, _<_}
+use Prim.Native.Nat.{_-_}
 use borrow.Author.Needs.{needs}
 use native.Mathlib.Omega.{arith}
 use lib.ListN.{length}

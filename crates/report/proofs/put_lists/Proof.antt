@@ -1,5 +1,4 @@
 -- `put_lists` meets its contract.
-use native.Mathlib.Omega.{arith}
 use borrow.Author.Needs.{needs}
 use Rattle.report.proofs.Lines.{lists-appended}
 use Rattle.report.proofs.put_lists.Statement.{statement}

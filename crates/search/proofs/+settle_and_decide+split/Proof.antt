@@ -1,5 +1,5 @@
 -- The walk: `settle_and_decide` and `split` meet their contracts together. The number of open variables falls at each split.
-use Prim.Native.Nat.{ℕ, _<_, _≤_, _+_, _*_, _-_}
+use Prim.Native.Nat.{ℕ, _≤_, _+_, _*_, _-_, _<_}
 use mathlib.Core.Path.{_≡_, refl, ap, sym, _∙_}
 use mathlib.Core.Option.{none, some}
 use borrow.Author.Needs.{needs}
@@ -9,7 +9,7 @@ use denote.Ref.{now}
 use borrow.Fn.Kinds.{In}
 use borrow.Fn.PlainCycle.{Measures, is, falls, and}
 use Rattle.literal.specs.declared.Literal.the-variants.{Pos}
-use Rattle.literal.specs.Literal.{TRUE, FALSE, var, codeOf, literalAt}
+use Rattle.literal.specs.Literal.{TRUE, FALSE, var, opposite, codeOf, literalAt}
 use Rattle.receipt.specs.declared.Outcome.the-variants.{NoLayout}
 use Rattle.theory.specs.Search.{branchVariable}
 use Rattle.theory.specs.State.{opens, assign}
@@ -32,6 +32,7 @@ use Rattle.search.proofs.+settle_and_decide+split.Lts-settle_and_decide
 use Rattle.search.proofs.split.Reads as split
 use Rattle.search.proofs.split.Kinds as split-kinds
 use Rattle.search.proofs.+settle_and_decide+split.Lts-split as split-lts
+use Rattle.literal.proofs.Literal.new.Reads as new-reads
 use Rattle.literal.proofs.Literal.code.Reads as code-reads
 use Rattle.literal.proofs.Literal.opposite.Reads as opposite-reads
 use Rattle.side.proofs.begin.Reads as begin-reads
@@ -68,6 +69,8 @@ decide-calls t =
 
 abbrev split-calls : ℕ → split-lts.Claims
 split-calls t = (
+  new-reads.Asked,
+  new-reads.Learnt,
   code-reads.Asked,
   code-reads.Learnt,
   begin-reads.Asked,
@@ -76,10 +79,10 @@ split-calls t = (
   below-reads.Learnt,
   settle-and-decide-below t,
   settle-and-decide.Post,
-  through-reads.Asked,
-  through-reads.Learnt,
   opposite-reads.Asked,
   opposite-reads.Learnt,
+  through-reads.Asked,
+  through-reads.Learnt,
 )
 
 -- settling and the decision ----------------------------------------------------------------------------------------
@@ -123,7 +126,7 @@ SecondWalked t = split-lts.After-settle-and-decide2 (split-calls t) (split-at t)
 
 -- where a split began, what its first side did, and what its second side began from
 abbrev start : (t : ℕ) → FirstBegun t → split-lts.Start (split-calls t) (split-at t) split.Post
-start t b = b .before .before .before .before .before .before .before .before
+start t b = b .before .before .before .before .before .before .before .before .before
 
 abbrev first : (t : ℕ) → FirstWalked t → FirstBegun t
 first t f = f .before .before .before .before .before .before .before
@@ -141,12 +144,16 @@ abbrev earlier : (t : ℕ) → SecondWalked t → FirstWalked t
 earlier t w = before t (second t w)
 
 abbrev some-left : (t : ℕ) → FirstWalked t → split-lts.Else1 (split-calls t) (split-at t) split.Post
-some-left t f = f .before .before .before .before .before .before .before .before .before .before .before .before
+some-left t f = f .before .before .before .before .before .before .before .before .before .before .before .before .before
+
+-- the literal of the side that is left out
+made : (t : ℕ) (b : FirstBegun t) → b .before .before .before .before .new .result ≡ Pos (start t b .args .p .0)
+made t b = b .before .before .before .before .new .ensures
 
 first-is : (t : ℕ) (b : FirstBegun t) →
     let a = start t b .args in
     assign (literalAt (b .before .code .result)) FALSE (stateIn (now (a .state))) ≡ assign (Pos (a .p .0)) FALSE (stateIn (now (a .state)))
-first-is t b = let a = start t b .args in out-assigns (a .p .0) (b .before .code .result) (b .before .code .ensures) (stateIn (now (a .state)))
+first-is t b = let a = start t b .args in out-assigns (a .p .0) (b .before .code .result) (b .before .code .ensures ∙ ap codeOf (made t b)) (stateIn (now (a .state)))
 
 -- what the first side makes, from the left-out state; its count is within its allowance
 first-walk : (t : ℕ) (f : FirstWalked t) →
@@ -164,7 +171,7 @@ first-count t f = omega (arith, walk-count _ _ _ _ _ _ _ (first-walk t f), some-
 second-is : (t : ℕ) (b : SecondBegun t) →
     let a = origin t (before t b) .args in
     assign (literalAt (b .before .code2 .result)) FALSE (stateIn (now (a .state))) ≡ assign (Pos (a .p .0)) TRUE (stateIn (now (a .state)))
-second-is t b = let a = origin t (before t b) .args in taken-assigns (a .p .0) (b .before .code2 .result) (b .before .code2 .ensures ∙ ap codeOf (b .before .before .opposite .ensures)) (stateIn (now (a .state)))
+second-is t b = let a = origin t (before t b) .args in taken-assigns (a .p .0) (b .before .code2 .result) (b .before .code2 .ensures ∙ ap codeOf (b .before .before .opposite2 .ensures ∙ ap opposite (made t (first t (before t b))))) (stateIn (now (a .state)))
 
 -- and the second, from the taken state and with what the first side leaves
 second-walk : (t : ℕ) (b : SecondWalked t) →
@@ -231,10 +238,11 @@ pub +settle-and-decide+split-spec : {M : Type 1} → statement M
     (λ t. split-lts.spec (split-calls t) (split-at t) split.Post
     (λ c. let s = c .before .before .before in let a = s .args in
     (none-left (a .level .variables) (formulaOf (now (a .index))) (stateIn (now (a .state))) (a .p .0) _ _ _ _ (c .if1 .taken), s .pre .1 .whole))
-    (λ c κs. let k = c .before .before .before .before .before .before .pre .1 in omega (arith, branch-open k .inside, k .lasting .small))
-    (λ c κs. let k = c .before .before .before .before .before .before .before .pre .1 in side-siding (k .calm) (k .lasting .small) (k .well) (branch-open k) _ (omega (arith, c .code .ensures)) _ (k .whole))
-    (λ c. omega (arith, c .before .before .before .before .before .before .before .before .if1 .left))
-    (λ c κs. let k = c .before .before .before .before .before .before .before .before .before .before .before .pre .1 in omega (arith, side-deep k, k .lasting .small))
+    (λ c κs. search needs)
+    (λ c κs. let k = c .before .before .before .before .before .before .before .pre .1 in omega (arith, ap var (c .before .before .new .ensures), branch-open k .inside, k .lasting .small))
+    (λ c κs. let k = c .before .before .before .before .before .before .before .before .pre .1 in side-siding (k .calm) (k .lasting .small) (k .well) (branch-open k) _ (omega (arith, c .code .ensures ∙ ap codeOf (c .before .before .before .new .ensures))) _ (k .whole))
+    (λ c. omega (arith, c .before .before .before .before .before .before .before .before .before .if1 .left))
+    (λ c κs. let k = c .before .before .before .before .before .before .before .before .before .before .before .before .pre .1 in omega (arith, side-deep k, k .lasting .small))
     (λ c κs.
     let g = c .before .before .before .before .before .before in
     let s = start t g in
@@ -245,26 +253,27 @@ pub +settle-and-decide+split-spec : {M : Type 1} → statement M
     rw (c .before .before .below .ensures)
     (omega (arith, side-falls (k .calm) (k .lasting .small) (k .well) (branch-open k) _ FALSE refl (first-is t g) st wk r (g .begin .ensures), s .pre .0), side-walkable k _ FALSE refl (first-is t g) st wk r (g .begin .ensures) _ _ _ refl refl))
     (λ c. search needs)
+    (λ c κs. search needs)
     (λ c κs.
-    let f = c .before .before .before .before .before in
+    let f = c .before .before .before .before .before .before in
     let s = origin t f in
-    side-passable (s .pre .1) _ _ (s .args .level .left) (omega (arith, first-count t f)) (some-left t f .before .struct-known .given .1 .1 .0) _ refl _ (f .settle-and-decide .kept .1 .1 .1 .1 .1 .1 .0))
+    side-passable (s .pre .1) _ _ (s .args .level .left) (omega (arith, first-count t f)) (some-left t f .before .struct-known .given .1 .1 .0) _ (ap var (c .before .opposite .ensures ∙ ap opposite (made t (first t f)))) _ (f .settle-and-decide .kept .1 .1 .1 .1 .1 .1 .0))
     (λ c. search needs)
     (λ c. search needs)
     (λ c.
-    let f = c .before .before .before .before .before .before .before in
+    let f = c .before .before .before .before .before .before .before .before in
     let s = origin t f in
     let a = s .args in (
-      rw (c .before .through .ensures .0, c .before .through .ensures .1)
+      rw (c .before .through .ensures .0, c .before .through .ensures .1, c .before .before .before .opposite .ensures, made t (first t f))
           (first-side (a .level .variables) (formulaOf (now (a .index))) (stateIn (now (a .state))) (a .p .0) (a .level .depth) (now (a .plan)) (now (a .trail)) (a .level .left)
           (some-left t f .if1 .left) (side-room (s .pre .1)) _ (first-walk t f)
-          (other-outcome (f .settle-and-decide .result .outcome) NoLayout 0 2 (c .before .before .before .match .keys2) (λ e. omega arith) (λ e. omega arith))),
+          (other-outcome (f .settle-and-decide .result .outcome) NoLayout 0 2 (c .before .before .before .before .match .keys2) (λ e. omega arith) (λ e. omega arith))),
       f .settle-and-decide .ensures .1,
     ))
     (λ c. omega (arith, first-count t (c .before .before .before .before .before .before)))
     (λ c κs. search needs)
-    (λ c κs. let k = origin t (c .before .before .before .before .before .before .before .before .before) .pre .1 in omega (arith, ap var (c .opposite .ensures), branch-open k .inside, k .lasting .small))
-    (λ c κs. let f = c .before .before .before .before .before .before .before .before .before .before in let k = origin t f .pre .1 in side-siding (k .calm) (k .lasting .small) (k .well) (branch-open k) _ (omega (arith, c .code2 .ensures ∙ ap codeOf (c .before .opposite .ensures))) _ (f .settle-and-decide .ensures .1))
+    (λ c κs. let f = c .before .before .before .before .before .before .before .before .before in let k = origin t f .pre .1 in omega (arith, ap var (c .opposite2 .ensures ∙ ap opposite (made t (first t f))), branch-open k .inside, k .lasting .small))
+    (λ c κs. let f = c .before .before .before .before .before .before .before .before .before .before in let k = origin t f .pre .1 in side-siding (k .calm) (k .lasting .small) (k .well) (branch-open k) _ (omega (arith, c .code2 .ensures ∙ ap codeOf (c .before .opposite2 .ensures ∙ ap opposite (made t (first t f))))) _ (f .settle-and-decide .ensures .1))
     (λ c. omega (arith, first-count t (c .before .before .before .before .before .before .before .before .before .before .before .before .before .before)))
     (λ c κs. let k = origin t (before t (c .before .before .before)) .pre .1 in omega (arith, side-deep k, k .lasting .small))
     (λ c κs.
@@ -284,7 +293,7 @@ pub +settle-and-decide+split-spec : {M : Type 1} → statement M
     let f = earlier t b in
     let s = origin t f in
     side-passable (s .pre .1) _ _ (s .args .level .left)
-    (omega (arith, first-count t f, walk-count _ _ _ _ _ _ _ (second-walk t b))) (some-left t f .before .struct-known .given .1 .1 .0) _ refl _
+    (omega (arith, first-count t f, walk-count _ _ _ _ _ _ _ (second-walk t b))) (some-left t f .before .struct-known .given .1 .1 .0) _ (ap var (made t (first t f))) _
     (b .settle-and-decide2 .kept .1 .1 .1 .1 .1 .1 .0 ∙ f .settle-and-decide .kept .1 .1 .1 .1 .1 .1 .0))
     (λ c. let b = c .before .before .before .before .before .before in let f = earlier t b in b .settle-and-decide2 .kept .1 .1 .1 .1 .1 .0 ∙ f .settle-and-decide .kept .1 .1 .1 .1 .1 .0)
     (λ c. let b = c .before .before .before .before .before .before in let f = earlier t b in
@@ -295,7 +304,7 @@ pub +settle-and-decide+split-spec : {M : Type 1} → statement M
     let f = m .before .before .before .before .before in
     let s = origin t f in
     let a = s .args in (
-      rw (c .before .through2 .ensures .0, c .before .through2 .ensures .1)
+      rw (c .before .through2 .ensures .0, c .before .through2 .ensures .1, made t (first t f))
           (second-side (a .level .variables) (formulaOf (now (a .index))) (stateIn (now (a .state))) (a .p .0) (a .level .depth) (now (a .plan)) (now (a .trail)) (a .level .left)
           (some-left t f .if1 .left) (side-room (s .pre .1)) _ (first-walk t f) (m .enum-told .given .1) _ (second-walk t b)),
       b .settle-and-decide2 .ensures .1,

@@ -5,10 +5,6 @@ use native.Mathlib.Omega.{arith}
 use Rattle.search.proofs.Branches.{not-root, stands-in, at-root}
 use Rattle.search.proofs.branches_on.Statement.{statement}
 use Rattle.search.proofs.branches_on.Tie as tie
-use Rattle.search.proofs.branches_on.Reads as reads
-use Rattle.search.proofs.branches_on.Lts as lts
-use Rattle.gather.proofs.stands_live.Reads as stands-live-reads
-use Rattle.tally.proofs.value_of.Reads as value-of-reads
 
 returns : tie.Need-returns
 returns c = not-root (c .before .before .pre) (λ e. c .if1 .taken (c .before .value-of .ensures ∙ e))

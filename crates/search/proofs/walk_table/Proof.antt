@@ -6,11 +6,6 @@ use Rattle.occurrences.proofs.Building.{within-all}
 use Rattle.search.proofs.Starting.{start-walkable, start-walk}
 use Rattle.search.proofs.walk_table.Statement.{statement}
 use Rattle.search.proofs.walk_table.Tie as tie
-use Rattle.search.proofs.walk_table.Reads as reads
-use Rattle.search.proofs.walk_table.Lts as lts
-use Rattle.occurrences.proofs.build.Reads as build-reads
-use Rattle.search.proofs.settle_and_decide.Reads as settle-and-decide-reads
-use Rattle.start.proofs.start.Reads as start-reads
 
 build-requires : tie.Need-build-requires
 build-requires c κs = within-all (accepted-sizes _ _ (c .before .pre .accepted))

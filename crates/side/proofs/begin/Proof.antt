@@ -5,11 +5,6 @@ use Rattle.notes.specs.Notes.{Notes}
 use Rattle.side.proofs.Beginning.{siding-decidable, siding-begun}
 use Rattle.side.proofs.begin.Statement.{statement}
 use Rattle.side.proofs.begin.Tie as tie
-use Rattle.side.proofs.begin.Reads as reads
-use Rattle.side.proofs.begin.Lts as lts
-use Rattle.notes.proofs.set_roots_end.Reads as set-roots-end-reads
-use Rattle.notes.proofs.set_todo_end.Reads as set-todo-end-reads
-use Rattle.decide.proofs.decide.Reads as decide-reads
 
 decide-requires : tie.Need-decide-requires
 decide-requires c κs =

@@ -5,18 +5,15 @@ use borrow.Author.Needs.{needs}
 use denote.Ref.{now}
 use native.Mathlib.Decide.{decLt}
 use native.Mathlib.Omega.{arith}
+use Rattle.literal.specs.Literal.{maxLiterals}
 use Rattle.occurrences.specs.Index.{firstAt, occurrenceAt}
 use Rattle.start.proofs.Signs.{signs-differ, signs-alike}
 use Rattle.start.proofs.both_signs.Statement.{statement}
 use Rattle.start.proofs.both_signs.Tie as tie
-use Rattle.start.proofs.both_signs.Reads as reads
-use Rattle.start.proofs.both_signs.Lts as lts
-use Rattle.occurrences.proofs.first_of.Reads as first-of-reads
-use Rattle.start.proofs.sign_at.Reads as sign-at-reads
 
 abbrev Inv-loop : tie.InvT-loop
 Inv-loop index p first last j₀ j =
-    (first ≡ firstAt index p) × (last ≡ firstAt index (p + 1)) × (last ≤ 2048) × (first ≤ j) × (j ≤ last) ×
+    (first ≡ firstAt index p) × (last ≡ firstAt index (p + 1)) × (last ≤ maxLiterals) × (first ≤ j) × (j ≤ last) ×
     ((k : ℕ) → first ≤ k → k < j → occurrenceAt index k % 2 ≡ occurrenceAt index first % 2)
 
 abbrev μ-loop : tie.MeasureT-loop

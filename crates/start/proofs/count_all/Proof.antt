@@ -6,6 +6,7 @@ use denote.Ref.{now}
 use native.Mathlib.Omega.{arith}
 use lib.Dec.{ltb}
 use Rattle.general.specs.Bits.{bit-le}
+use Rattle.literal.specs.Literal.{maxClauses}
 use Rattle.occurrences.specs.Index.{clauseCount}
 use Rattle.tally.specs.Tally.{tallyOf}
 use Rattle.notes.specs.Notes.{notesOf, Whole, withRootsEnd}
@@ -13,19 +14,10 @@ use Rattle.start.specs.Counting.{CountedBelow}
 use Rattle.start.proofs.Counting.{counted-begins, counted-goes, counted-ends, todo-long, empty-dies}
 use Rattle.start.proofs.count_all.Statement.{statement}
 use Rattle.start.proofs.count_all.Tie as tie
-use Rattle.start.proofs.count_all.Reads as reads
-use Rattle.start.proofs.count_all.Lts as lts
-use Rattle.notes.proofs.put_todo.Reads as put-todo-reads
-use Rattle.notes.proofs.set_roots_end.Reads as set-roots-end-reads
-use Rattle.notes.proofs.set_todo_end.Reads as set-todo-end-reads
-use Rattle.occurrences.proofs.clause_count.Reads as clause-count-reads
-use Rattle.start.proofs.length_of.Reads as length-of-reads
-use Rattle.start.proofs.short.Reads as short-reads
-use Rattle.tally.proofs.set_count.Reads as set-count-reads
 
 abbrev Inv-loop : tie.InvT-loop
 Inv-loop index state₀ work₀ clauses end₀ g₀ state work end g =
-    (g ≤ clauses) × (clauses ≡ clauseCount index) × (clauseCount index ≤ 512) × Whole work × CountedBelow index (tallyOf state) (notesOf work) end g
+    (g ≤ clauses) × (clauses ≡ clauseCount index) × (clauseCount index ≤ maxClauses) × Whole work × CountedBelow index (tallyOf state) (notesOf work) end g
 
 abbrev μ-loop : tie.MeasureT-loop
 μ-loop index state₀ work₀ clauses end₀ g₀ state work end g = clauses - g

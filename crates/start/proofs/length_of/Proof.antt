@@ -9,10 +9,6 @@ use Rattle.literal.specs.Literal.{literalAt}
 use Rattle.occurrences.specs.Index.{codeAt, startAt}
 use Rattle.start.proofs.length_of.Statement.{statement}
 use Rattle.start.proofs.length_of.Tie as tie
-use Rattle.start.proofs.length_of.Reads as reads
-use Rattle.start.proofs.length_of.Lts as lts
-use Rattle.occurrences.proofs.start_of.Reads as start-of-reads
-use Rattle.occurrences.proofs.end_of.Reads as end-of-reads
 
 start-of-requires : tie.Need-start-of-requires
 start-of-requires c κs = search needs

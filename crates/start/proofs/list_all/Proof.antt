@@ -3,21 +3,18 @@ use mathlib.Core.Path.{_≡_}
 use Prim.Native.Nat.{_≤_, _-_}
 use borrow.Author.Needs.{needs}
 use native.Mathlib.Omega.{arith}
+use Rattle.literal.specs.Literal.{variables}
 use Rattle.notes.specs.Notes.{notesOf}
 use Rattle.start.specs.Signs.{Listing}
 use Rattle.start.proofs.Signs.{listed-begins, listing-none, listing-goes, listing-ends}
 use Rattle.start.proofs.list_all.Statement.{statement}
 use Rattle.start.proofs.list_all.Tie as tie
-use Rattle.start.proofs.list_all.Reads as reads
-use Rattle.start.proofs.list_all.Lts as lts
-use Rattle.notes.proofs.set_roots_end.Reads as set-roots-end-reads
-use Rattle.start.proofs.list_at.Reads as list-at-reads
 
 abbrev Inv-loop : tie.InvT-loop
-Inv-loop index work₀ end₀ p₀ work end p = (1 ≤ p) × (p ≤ 257) × Listing index work₀ work end p
+Inv-loop index work₀ end₀ p₀ work end p = (1 ≤ p) × (p ≤ variables) × Listing index work₀ work end p
 
 abbrev μ-loop : tie.MeasureT-loop
-μ-loop index work₀ end₀ p₀ work end p = 257 - p
+μ-loop index work₀ end₀ p₀ work end p = variables - p
 
 loop-holds : tie.Need-loop-holds Inv-loop μ-loop
 loop-holds c = (omega arith, omega arith, listing-none (c .pre .1) (listed-begins (notesOf (c .args .work .now))))
@@ -36,7 +33,7 @@ set-roots-end-requires c κs = let l = c .before .before .loop in (omega (arith,
 returns : tie.Need-returns Inv-loop μ-loop
 returns c =
     let l = c .before .before .before .loop in
-    let e : l .p ≡ 257 = omega arith in
+    let e : l .p ≡ variables = omega arith in
     listing-ends (rw e at (l .inv .2)) (c .set-roots-end .ensures .1) (c .set-roots-end .ensures .0)
 
 pub list-all-spec : {M : Type 1} → statement M

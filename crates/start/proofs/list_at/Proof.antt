@@ -4,10 +4,6 @@ use Rattle.notes.specs.Notes.{notesOf}
 use Rattle.start.proofs.Signs.{listed-past, listing-none, listing-one}
 use Rattle.start.proofs.list_at.Statement.{statement}
 use Rattle.start.proofs.list_at.Tie as tie
-use Rattle.start.proofs.list_at.Reads as reads
-use Rattle.start.proofs.list_at.Lts as lts
-use Rattle.notes.proofs.put_root.Reads as put-root-reads
-use Rattle.start.proofs.both_signs.Reads as both-signs-reads
 
 returns : tie.Need-returns
 returns c =

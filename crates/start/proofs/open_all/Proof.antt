@@ -3,21 +3,18 @@ use mathlib.Core.Path.{_≡_, ap, _∙_}
 use Prim.Native.Nat.{_≤_, _-_}
 use borrow.Author.Needs.{needs}
 use native.Mathlib.Omega.{arith}
+use Rattle.literal.specs.Literal.{variables}
 use Rattle.tally.specs.Tally.{tallyOf, withLink}
 use Rattle.start.specs.Opening.{OpenBelow}
 use Rattle.start.proofs.Opening.{open-begins, open-goes}
 use Rattle.start.proofs.open_all.Statement.{statement}
 use Rattle.start.proofs.open_all.Tie as tie
-use Rattle.start.proofs.open_all.Reads as reads
-use Rattle.start.proofs.open_all.Lts as lts
-use Rattle.tally.proofs.set_link.Reads as set-link-reads
-use Rattle.tally.proofs.set_value.Reads as set-value-reads
 
 abbrev Inv-loop : tie.InvT-loop
-Inv-loop state₀ p₀ state p = (p ≤ 257) × OpenBelow (tallyOf state) p
+Inv-loop state₀ p₀ state p = (p ≤ variables) × OpenBelow (tallyOf state) p
 
 abbrev μ-loop : tie.MeasureT-loop
-μ-loop state₀ p₀ state p = 257 - p
+μ-loop state₀ p₀ state p = variables - p
 
 loop-holds : tie.Need-loop-holds Inv-loop μ-loop
 loop-holds c = (omega arith, open-begins (c .args .state .now) (c .pre))
@@ -30,7 +27,7 @@ loop-again c =
 returns : tie.Need-returns Inv-loop μ-loop
 returns c =
     let l = c .before .loop in
-    let e : l .p ≡ 257 = omega arith in
+    let e : l .p ≡ variables = omega arith in
     rw e at (l .inv .1)
 
 pub open-all-spec : {M : Type 1} → statement M

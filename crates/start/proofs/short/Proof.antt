@@ -5,8 +5,6 @@ use borrow.Author.Tests.{lt-ltb, le-ltb}
 use Rattle.general.specs.Booleans.{bit}
 use Rattle.start.proofs.short.Statement.{statement}
 use Rattle.start.proofs.short.Tie as tie
-use Rattle.start.proofs.short.Reads as reads
-use Rattle.start.proofs.short.Lts as lts
 
 returns : tie.Need-returns
 returns c = sym (ap bit (lt-ltb (c .before .args .count) 3 (omega arith)))

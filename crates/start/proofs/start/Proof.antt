@@ -3,12 +3,6 @@ use borrow.Author.Needs.{needs}
 use Rattle.start.proofs.Starting.{fresh-undoubling, fresh-died, started}
 use Rattle.start.proofs.start.Statement.{statement}
 use Rattle.start.proofs.start.Tie as tie
-use Rattle.start.proofs.start.Reads as reads
-use Rattle.start.proofs.start.Lts as lts
-use Rattle.start.proofs.count_all.Reads as count-all-reads
-use Rattle.start.proofs.list_all.Reads as list-all-reads
-use Rattle.start.proofs.open_all.Reads as open-all-reads
-use Rattle.start.proofs.undouble_all.Reads as undouble-all-reads
 
 returns : tie.Need-returns
 returns c = rw (c .if1 .taken) at (c .before .count-all .ensures)

@@ -3,20 +3,18 @@ use mathlib.Core.Path.{_≡_}
 use Prim.Native.Nat.{_≤_, _-_}
 use borrow.Author.Needs.{needs}
 use native.Mathlib.Omega.{arith}
+use Rattle.literal.specs.Literal.{variables}
 use Rattle.start.specs.Undoubling.{UndoubledBelow}
 use Rattle.start.proofs.Undoubling.{undoubled-begins, undoubled-on, undoubled-goes}
 use Rattle.moves.proofs.Dying.{died-fallen}
 use Rattle.start.proofs.undouble_all.Statement.{statement}
 use Rattle.start.proofs.undouble_all.Tie as tie
-use Rattle.start.proofs.undouble_all.Reads as reads
-use Rattle.start.proofs.undouble_all.Lts as lts
-use Rattle.start.proofs.undouble_at.Reads as undouble-at-reads
 
 abbrev Inv-loop : tie.InvT-loop
-Inv-loop index state₀ work₀ r₀ state work r = (1 ≤ r) × (r ≤ 257) × UndoubledBelow index state₀ work₀ state work r
+Inv-loop index state₀ work₀ r₀ state work r = (1 ≤ r) × (r ≤ variables) × UndoubledBelow index state₀ work₀ state work r
 
 abbrev μ-loop : tie.MeasureT-loop
-μ-loop index state₀ work₀ r₀ state work r = 257 - r
+μ-loop index state₀ work₀ r₀ state work r = variables - r
 
 loop-holds : tie.Need-loop-holds Inv-loop μ-loop
 loop-holds c = (omega arith, omega arith, undoubled-begins (c .pre .sound))
@@ -41,7 +39,7 @@ loop-again c =
 returns-2 : tie.Need-returns-2 Inv-loop μ-loop
 returns-2 c =
     let l = c .before .loop in
-    let e : l .r ≡ 257 = omega arith in
+    let e : l .r ≡ variables = omega arith in
     rw e at (l .inv .2)
 
 pub undouble-all-spec : {M : Type 1} → statement M

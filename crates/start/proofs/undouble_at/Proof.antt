@@ -4,10 +4,6 @@ use native.Mathlib.Omega.{arith}
 use Rattle.start.proofs.Undoubling.{closed-doubles}
 use Rattle.start.proofs.undouble_at.Statement.{statement}
 use Rattle.start.proofs.undouble_at.Tie as tie
-use Rattle.start.proofs.undouble_at.Reads as reads
-use Rattle.start.proofs.undouble_at.Lts as lts
-use Rattle.tally.proofs.value_of.Reads as value-of-reads
-use Rattle.tie.proofs.doubles_at.Reads as doubles-at-reads
 
 closed : tie.Need-returns-2
 closed c =

@@ -5,8 +5,6 @@ use native.Mathlib.Omega.{arith}
 use Rattle.tally.proofs.Parts.{reads-count}
 use Rattle.tally.proofs.count_of.Statement.{statement}
 use Rattle.tally.proofs.count_of.Tie as tie
-use Rattle.tally.proofs.count_of.Reads as reads
-use Rattle.tally.proofs.count_of.Lts as lts
 
 returns : tie.Need-returns
 returns c = reads-count (now (c .before .args .state)) (c .before .args .g) (omega (arith, c .before .pre))

@@ -5,8 +5,6 @@ use native.Mathlib.Omega.{arith}
 use Rattle.tally.proofs.Parts.{writes-count}
 use Rattle.tally.proofs.set_count.Statement.{statement}
 use Rattle.tally.proofs.set_count.Tie as tie
-use Rattle.tally.proofs.set_count.Reads as reads
-use Rattle.tally.proofs.set_count.Lts as lts
 
 returns : tie.Need-returns
 returns c = writes-count (now (c .args .state)) (c .args .count) (c .args .g) (omega (arith, c .pre))

@@ -5,8 +5,6 @@ use native.Mathlib.Omega.{arith}
 use Rattle.tally.proofs.Parts.{writes-link}
 use Rattle.tally.proofs.set_link.Statement.{statement}
 use Rattle.tally.proofs.set_link.Tie as tie
-use Rattle.tally.proofs.set_link.Reads as reads
-use Rattle.tally.proofs.set_link.Lts as lts
 
 returns : tie.Need-returns
 returns c = writes-link (now (c .args .state)) (c .args .next) (c .args .p) (omega (arith, c .pre))

@@ -5,8 +5,6 @@ use native.Mathlib.Omega.{arith}
 use Rattle.tally.proofs.Parts.{writes-value}
 use Rattle.tally.proofs.set_value.Statement.{statement}
 use Rattle.tally.proofs.set_value.Tie as tie
-use Rattle.tally.proofs.set_value.Reads as reads
-use Rattle.tally.proofs.set_value.Lts as lts
 
 returns : tie.Need-returns
 returns c = writes-value (now (c .args .state)) (c .args .value) (c .args .p) (omega (arith, c .pre))

@@ -4,10 +4,6 @@ use native.Mathlib.Omega.{arith}
 use Rattle.tally.proofs.Values.{value-code}
 use Rattle.tally.proofs.value_at.Statement.{statement}
 use Rattle.tally.proofs.value_at.Tie as tie
-use Rattle.tally.proofs.value_at.Reads as reads
-use Rattle.tally.proofs.value_at.Lts as lts
-use Rattle.occurrences.proofs.literal_at.Reads as literal-at-reads
-use Rattle.tally.proofs.value_of.Reads as value-of-reads
 
 returns : tie.Need-returns
 returns c =

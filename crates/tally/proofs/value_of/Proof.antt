@@ -5,8 +5,6 @@ use native.Mathlib.Omega.{arith}
 use Rattle.tally.proofs.Parts.{reads-value}
 use Rattle.tally.proofs.value_of.Statement.{statement}
 use Rattle.tally.proofs.value_of.Tie as tie
-use Rattle.tally.proofs.value_of.Reads as reads
-use Rattle.tally.proofs.value_of.Lts as lts
 
 returns : tie.Need-returns
 returns c = reads-value (now (c .before .args .state)) (c .before .args .p) (omega (arith, c .before .pre))

@@ -2,7 +2,7 @@
 use mathlib.Core.Path.{_≡_, ap, _∙_}
 use Prim.Native.Nat.{ℕ, _/_, _≤_}
 use borrow.Author.Needs.{needs}
-use Rattle.literal.specs.Literal.{codeOf, literalAt, maxVariables}
+use Rattle.literal.specs.Literal.{codeOf, literalAt, maxVariables, variables}
 use Rattle.theory.specs.State.{replace}
 use Rattle.tally.specs.Tally.{tallyOf, valueIn}
 use Rattle.tally.proofs.Rings.{size}
@@ -14,7 +14,7 @@ abbrev Inv-loop : tie.InvT-loop
 Inv-loop state₀ x t root p₀ state p = Turning (tallyOf state₀) x t (tallyOf state) p
 
 abbrev μ-loop : tie.MeasureT-loop
-μ-loop state₀ x t root p₀ state p = size (x / 2) (tallyOf state .values) 257
+μ-loop state₀ x t root p₀ state p = size (x / 2) (tallyOf state .values) variables
 
 -- the value that is written
 is : (c : tie.After-turned Inv-loop μ-loop) → let v = c .before .before in

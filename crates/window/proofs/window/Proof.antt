@@ -1,6 +1,9 @@
 -- `window` meets its contract: a short receipt, or what solving the strip puts on it.
 use mathlib.Core.Path.{_≡_, ap, _∙_}
+use Prim.Native.Nat.{_<_}
+use native.Mathlib.Omega.{arith}
 use borrow.Author.Needs.{needs}
+use lib.ListN.{length}
 use Rattle.receipt.specs.Answers.{searchingReceipt}
 use Rattle.theory.specs.Calls.{over, receiptLength, receiptBytes}
 use Rattle.window.proofs.Calling.{call-short, answer-place, call-written}
@@ -8,7 +11,10 @@ use Rattle.window.proofs.window.Statement.{statement}
 use Rattle.window.proofs.window.Tie as tie
 
 returns : tie.Need-returns
-returns c = rw (c .number .ensures) (call-short _ _ _ _ (c .before .if1 .taken))
+returns c =
+    let old = c .before .before .before .before .before .args .receipt .now in
+    let short : length old < receiptLength = omega (arith, c .before .if1 .taken) in
+    rw (c .number .ensures) (call-short _ _ _ old short)
 
 -- what solving the strip answers, on the receipt
 stamped : (c : tie.After-receipt) → c .receipt .result ≡ searchingReceipt (c .before .before .before .before .solve .result .answer)
