@@ -91,8 +91,8 @@ logged() { # a command; its output goes to the log, and is shown if it fails
 build_command() { # each source by itself, so that two cores share them
     mkdir -p "$build/command"
     printf '%s\n' command/*.cpp | xargs -P "$(nproc)" -I{} sh -c \
-        'g++ -std=c++17 -O2 -Wall -Wextra -Iinclude -c "$1" -o "$2/$(basename "$1").o"' compile {} "$build/command"
-    g++ "$build"/command/*.o target/staticlib/libplatewright.a -o "$build/platewright"
+        'g++ -std=c++17 -O2 -Wall -Wextra -pthread -Iinclude -c "$1" -o "$2/$(basename "$1").o"' compile {} "$build/command"
+    g++ -pthread "$build"/command/*.o target/staticlib/libplatewright.a -o "$build/platewright"
 }
 
 build_all() {

@@ -141,3 +141,19 @@ for program in layout strip_of; do
         "$program: reads"
 done
 echo "said"
+
+step "the command"
+grep -qF "\"platewright $(sed -n 's/^#define PLATEWRIGHT_VERSION "\(.*\)"$/\1/p' include/platewright.h)\"" \
+    command/platewright.1 || { echo "the man page has another version than the header"; exit 1; }
+tests/command/run.sh "$prefix/bin/platewright" >"$room/command.log" || { cat "$room/command.log"; exit 1; }
+tr '\n' ';' <"$room/command.log"
+tests/command/fuzz.sh "$archive" >"$room/fuzz.log" 2>&1 || { cat "$room/fuzz.log"; exit 1; }
+tail -n 1 "$room/fuzz.log"
+
+step "names in the documents"
+python3 tests/names.py
+
+step uninstall
+./install.sh --uninstall "$prefix" >/dev/null
+same "what is left" "$(find "$prefix" -mindepth 1)" ""
+echo "nothing left"

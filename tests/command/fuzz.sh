@@ -8,14 +8,14 @@ cd "$(dirname "$0")/../.."
 folder=$(mktemp -d)
 trap 'rm -rf "$folder"' EXIT
 sources=$(ls command/*.cpp | grep -v -e main.cpp -e usage.cpp)
-flags="-std=c++17 -Wall -Wextra -Werror -O1 -g -fno-sanitize-recover=all -Iinclude"
+flags="-std=c++17 -Wall -Wextra -Werror -g1 -fno-sanitize-recover=all -Iinclude"
 if [ $# -eq 1 ]; then
     # shellcheck disable=SC2086
     g++ $flags -fsanitize=address,undefined tests/command/fuzz.cpp $sources "$archive" -o "$folder/fuzz"
     "$folder/fuzz"
 else
     # shellcheck disable=SC2086
-    clang++ $flags -DLIBFUZZER -fsanitize=fuzzer,address,undefined tests/command/fuzz.cpp $sources "$archive" \
+    clang++ $flags -O1 -DLIBFUZZER -fsanitize=fuzzer,address,undefined tests/command/fuzz.cpp $sources "$archive" \
         -o "$folder/fuzz"
     mkdir "$folder/corpus"
     printf 'placements a b@1.1 c\na b@1.1\n-a \xe2\x88\x92c # x\n.\n' > "$folder/corpus/names"
