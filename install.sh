@@ -1,5 +1,5 @@
 #!/usr/bin/env bash
-# Proves and builds the library and the programs layout and strip_of, and installs them for C, C++ and Python.
+# Proves and builds the library and the programs, and installs them for the shell, C, C++ and Python; see usage.
 set -eu
 
 usage() {
@@ -60,10 +60,25 @@ installed_before() { # a path below PREFIX
     [ -f "$root/$list" ] && grep -qxF -- "$1" "$root/$list"
 }
 
+has_headers() { # the command's: options, JSON
+    printf '#include <CLI/CLI.hpp>\n#include <nlohmann/json.hpp>\n' | g++ -std=c++17 -E -x c++ - >/dev/null 2>&1
+}
+
+look_for_headers() {
+    local packages=(libcli11-dev nlohmann-json3-dev)
+    has_headers && return
+    if [ "$(id -u)" = 0 ] && command -v apt-get >/dev/null; then
+        echo "installing ${packages[*]}"
+        { apt-get update -qq && DEBIAN_FRONTEND=noninteractive apt-get install -y -qq "${packages[@]}"; } \
+            >/dev/null 2>&1 || true
+    fi
+    has_headers || fail "missing, and could not be installed: ${packages[*]}"
+}
+
 # Says what is missing before anything is proved.
 look_first() {
     local missing=() above=$root path probe
-    for program in rt gcc; do command -v "$program" >/dev/null || missing+=("$program"); done
+    for program in rt gcc g++; do command -v "$program" >/dev/null || missing+=("$program"); done
     [ ${#missing[@]} -eq 0 ] || fail "not found: ${missing[*]}"
     while [ ! -e "$above" ]; do above=$(dirname "$above"); done
     [ -d "$above" ] || fail "not a folder: $above"

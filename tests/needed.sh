@@ -1,7 +1,9 @@
 #!/usr/bin/env bash
-# Sees to it that what the tests need is installed: installs Debian's packages where something is missing, and says what can't be had.
+# Sees to it that what the tests need is installed: installs Debian's packages where something is missing, and says
+# what can't be had.
 set -eu
-packages=(gcc g++ libc6-dev python3 pkg-config doctest-dev librapidcheck-dev libcli11-dev nlohmann-json3-dev)
+packages=(gcc g++ libc6-dev binutils bsdutils diffutils python3 pkg-config)
+packages+=(librapidcheck-dev libcli11-dev nlohmann-json3-dev)
 missing=()
 for package in "${packages[@]}"; do
     dpkg-query -W -f='${Status}' "$package" 2>/dev/null | grep -q 'install ok installed' || missing+=("$package")

@@ -18,10 +18,10 @@ use Rattle.receipt.specs.declared.Fault.the-variants.{TooManyClauses, TooManyLi
 use Rattle.receipt.specs.declared.Refusal.{Refusal}
 use Rattle.theory.specs.Calls.{AddCall, addRefused, isWrong, addedCall, checkGroup, checkAdded, addCall}
 use Rattle.theory.specs.Formula.{clauses}
-use Rattle.theory.specs.Refusing.{atMost, NotRefused}
+use Rattle.theory.specs.Refusing.{atMost, NotRefused, RefusedFirst}
 use Rattle.theory.specs.Table.{zeros, nonzeros, check, Accepted, WithinLimits}
 use Rattle.theory.specs.Unknown.{UnknownInAdd, Names}
-use Rattle.theory.proofs.Refusing.{passed-named, first-named, most-named, number-not-refused, RefusedFirst, first-refuses, Refusing, accepted-is, refused-with, accepted-when, unchanged, call-names}
+use Rattle.theory.proofs.Refusing.{passed-named, first-named, most-named, number-not-refused, first-refuses, Refusing, accepted-is, refused-with, accepted-when, unchanged, call-names}
 use Rattle.theory.proofs.Tables.{accepted-exactly}
 use Rattle.theory.proofs.Unknown.{none-named}
 use Rattle.add.specs.Add.{called}

@@ -21,11 +21,11 @@ use Rattle.receipt.specs.declared.Refusal.{Refusal}
 use Rattle.theory.specs.Calls.{over, IndexCall, indexRefused, indexedCall, indexCall}
 use Rattle.theory.specs.Formula.{clauses}
 use Rattle.theory.specs.Heads.{head, headsOf, headAt, HeadOf}
-use Rattle.theory.specs.Refusing.{atMost, firstRefusal, NotRefused}
+use Rattle.theory.specs.Refusing.{atMost, firstRefusal, NotRefused, RefusedFirst}
 use Rattle.theory.specs.Table.{zeros, endsOpen, check, Accepted, WithinLimits}
 use Rattle.theory.specs.Unknown.{Encloses, UnknownInTable, Names}
 use Rattle.theory.proofs.Heads.{clauses-zeros, heads-zeros, heads-hold, first-start, next-start, last-end, in-order}
-use Rattle.theory.proofs.Refusing.{most-passes, both-pass, last-passes, table-named, passed-named, first-named, most-named, number-not-refused, RefusedFirst, first-refuses, Refusing, accepted-is, refused-with, accepted-when, unchanged, call-cases, call-names}
+use Rattle.theory.proofs.Refusing.{most-passes, both-pass, last-passes, table-named, passed-named, first-named, most-named, number-not-refused, first-refuses, Refusing, accepted-is, refused-with, accepted-when, unchanged, call-cases, call-names}
 use Rattle.theory.proofs.Tables.{accepted-exactly, accepted-closed}
 use Rattle.theory.proofs.Unknown.{none-named}
 use Rattle.index.specs.Index.{called}

@@ -29,7 +29,7 @@ use Rattle.theory.specs.Formula.{Choice, clauses, Solution}
 use Rattle.theory.specs.Layouts.{layouts}
 use Rattle.theory.specs.Listing.{listTree, listNeeds, list, rowBytes, rowsOf}
 use Rattle.theory.specs.Order.{_≺_}
-use Rattle.theory.specs.Refusing.{atMost, firstRefusal, NotRefused}
+use Rattle.theory.specs.Refusing.{atMost, firstRefusal, NotRefused, RefusedFirst}
 use Rattle.theory.specs.Table.{check, Accepted, WithinLimits}
 use Rattle.theory.specs.Tree.{Found, choicesFound, Result, finished, stop}
 use Rattle.theory.specs.Unknown.{UnknownInTable, Names}
@@ -42,7 +42,7 @@ use Rattle.theory.proofs.Listing.{list-layouts}
 use Rattle.theory.proofs.ListingBound.{list-under, list-bound, list-bound-all}
 use Rattle.theory.proofs.Order.{≼-antisym}
 use Rattle.theory.proofs.Rows.{rows-whole, rows-row, rows-zero, bits-same}
-use Rattle.theory.proofs.Refusing.{most-passes, both-pass, last-passes, table-named, passed-named, first-named, most-named, outcome-names, RefusedFirst, first-refuses, Refusing, accepted-is, refused-with, accepted-when, unchanged, call-names}
+use Rattle.theory.proofs.Refusing.{most-passes, both-pass, last-passes, table-named, passed-named, first-named, most-named, outcome-names, first-refuses, Refusing, accepted-is, refused-with, accepted-when, unchanged, call-names}
 use Rattle.theory.proofs.Tables.{accepted-exactly}
 use Rattle.theory.proofs.Tree.{choices-length}
 use Rattle.search.specs.Call as search

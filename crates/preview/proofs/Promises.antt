@@ -23,12 +23,12 @@ use Rattle.theory.specs.Calls.{SettleCall, settledCall, settleRefused, settleCa
 use Rattle.theory.specs.Formula.{clauses}
 use Rattle.theory.specs.Propagation.{settle}
 use Rattle.theory.specs.Reasons.{SettledBy}
-use Rattle.theory.specs.Refusing.{atMost, firstRefusal, unless, NotRefused}
+use Rattle.theory.specs.Refusing.{atMost, firstRefusal, unless, NotRefused, RefusedFirst}
 use Rattle.theory.specs.State.{initial}
 use Rattle.theory.specs.Table.{zeros, Accepted}
 use Rattle.theory.specs.Unknown.{UnknownInAdd, Names}
 use Rattle.theory.proofs.LastGroup.{last-zeros}
-use Rattle.theory.proofs.Refusing.{most-passes, both-pass, last-passes, passed-named, first-named, most-named, number-not-refused, RefusedFirst, first-refuses, Refusing, refused-is, refused-with, accepted-when, unchanged, call-names}
+use Rattle.theory.proofs.Refusing.{most-passes, both-pass, last-passes, passed-named, first-named, most-named, number-not-refused, first-refuses, Refusing, refused-is, refused-with, accepted-when, unchanged, call-names}
 use Rattle.settle.specs.Settle.{called}
 use Rattle.settle.proofs.Promises as settles
 use Rattle.add.specs.Addable.{Follows}

@@ -24,12 +24,12 @@ use Rattle.receipt.specs.declared.Saving.the-variants.{Refused}
 use Rattle.theory.specs.Calls.{over, SaveCall, saveRefused, savedCall, saveCheck, saveCall, readCall}
 use Rattle.theory.specs.Encoding.{savedStrip, savedLength, Unchaptered, Bytes}
 use Rattle.theory.specs.Mentions.{mentionsAll, Mentioned}
-use Rattle.theory.specs.Refusing.{atMost, firstRefusal, NotRefused}
+use Rattle.theory.specs.Refusing.{atMost, firstRefusal, NotRefused, RefusedFirst}
 use Rattle.theory.specs.Strip.{Decoding, readStrip}
 use Rattle.theory.specs.Table.{zeros, nonzeros, check, Accepted, WithinLimits}
 use Rattle.theory.specs.Unknown.{UnknownInTable, Names}
 use Rattle.theory.proofs.Encodings.{saved-length, saved-short}
-use Rattle.theory.proofs.Refusing.{most-passes, first-passed, last-passes, table-named, passed-named, first-named, if-named, most-named, number-not-refused, RefusedFirst, first-refuses, Refusing, accepted-is, refused-with, accepted-when, unchanged, call-cases, call-names}
+use Rattle.theory.proofs.Refusing.{most-passes, first-passed, last-passes, table-named, passed-named, first-named, if-named, most-named, number-not-refused, first-refuses, Refusing, accepted-is, refused-with, accepted-when, unchanged, call-cases, call-names}
 use Rattle.theory.proofs.Tables.{accepted-sizes, accepted-exactly}
 use Rattle.theory.proofs.Unknown.{none-named}
 use Rattle.strip.specs.Decoding.{called as readCalled}

@@ -27,7 +27,7 @@ use Rattle.theory.specs.Calls.{SearchCall, searchedCall, searchRefused, searchC
 use Rattle.theory.specs.Formula.{Choice, clauses, Solution}
 use Rattle.theory.specs.Order.{_≼_, Least}
 use Rattle.theory.specs.Reasons.{searchBy}
-use Rattle.theory.specs.Refusing.{atMost, firstRefusal, NotRefused}
+use Rattle.theory.specs.Refusing.{atMost, firstRefusal, NotRefused, RefusedFirst}
 use Rattle.theory.specs.Search.{treeOf, needs, search, planOf, trailOf}
 use Rattle.theory.specs.Table.{check, Accepted, WithinLimits}
 use Rattle.theory.specs.Tree.{Found, Result}
@@ -36,7 +36,7 @@ use Rattle.theory.proofs.Budget.{limited-empty}
 use Rattle.theory.proofs.Demands as demands
 use Rattle.theory.proofs.Paths.{plan-long, trail-long}
 use Rattle.theory.proofs.Forgetting.{search-forgets}
-use Rattle.theory.proofs.Refusing.{most-passes, both-pass, last-passes, NamedBy, table-named, passed-named, first-named, most-named, outcome-names, RefusedFirst, first-refuses, Refusing, accepted-is, refused-with, accepted-when, unchanged, call-names}
+use Rattle.theory.proofs.Refusing.{most-passes, both-pass, last-passes, NamedBy, table-named, passed-named, first-named, most-named, outcome-names, first-refuses, Refusing, accepted-is, refused-with, accepted-when, unchanged, call-names}
 use Rattle.theory.proofs.Tables.{accepted-exactly}
 use Rattle.search.specs.Call.{Acceptable, Call, Reports, countOf, Alike}
 

@@ -24,7 +24,7 @@ use Rattle.theory.specs.Formula.{Choice, clauses, Solution, Within}
 use Rattle.theory.specs.Propagation.{settle}
 use Rattle.theory.specs.Propagation as plain
 use Rattle.theory.specs.Reasons.{Explained, unexplained, Explanation, dead, rest, propagateBy, explain, forget, SettledBy}
-use Rattle.theory.specs.Refusing.{atMost, firstRefusal, NotRefused}
+use Rattle.theory.specs.Refusing.{atMost, firstRefusal, NotRefused, RefusedFirst}
 use Rattle.theory.specs.SettledList.{stateIn, Remains}
 use Rattle.theory.specs.State.{initial}
 use Rattle.theory.specs.Table.{zeros, Accepted, check, WithinLimits}
@@ -32,7 +32,7 @@ use Rattle.theory.specs.Unknown.{UnknownInTable, Names}
 use Rattle.theory.proofs.Heads.{clauses-zeros}
 use Rattle.theory.proofs.Forgetting.{settle-forgets}
 use Rattle.theory.proofs.Reasons.{initial-accounted, reason-open, reason-named, reason-kept}
-use Rattle.theory.proofs.Refusing.{not-passed, most-passes, both-pass, last-passes, table-named, passed-named, first-named, most-named, RefusedFirst, first-refuses, Refusing, accepted-is, refused-with, accepted-when, unchanged, call-cases, call-names}
+use Rattle.theory.proofs.Refusing.{not-passed, most-passes, both-pass, last-passes, table-named, passed-named, first-named, most-named, first-refuses, Refusing, accepted-is, refused-with, accepted-when, unchanged, call-cases, call-names}
 use Rattle.theory.proofs.SettledList.{entry-open, written-at, list-read, dead-end-none, settled-well, settled-remains}
 use Rattle.theory.proofs.Tables.{accepted-exactly, accepted-within}
 use Rattle.theory.proofs.Unknown.{none-named}

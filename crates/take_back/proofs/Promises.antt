@@ -27,11 +27,11 @@ use Rattle.receipt.specs.declared.TakingBack.{TakingBack}
 use Rattle.receipt.specs.declared.TakingBack.the-variants as taking-back
 use Rattle.theory.specs.Calls.{AddCall, added, TakeBackCall, takeBackRefused, cleared, takenBackCall, takeBackCall}
 use Rattle.theory.specs.Heads.{lastStart, lastGroup}
-use Rattle.theory.specs.Refusing.{refusedIf, atMost, firstOf, firstRefusal, NotRefused}
+use Rattle.theory.specs.Refusing.{refusedIf, atMost, firstOf, firstRefusal, NotRefused, RefusedFirst}
 use Rattle.theory.specs.Table.{zeros, nonzeros, endsOpen, check, WithinLimits}
 use Rattle.theory.specs.Unknown.{UnknownInTable, Names}
 use Rattle.theory.proofs.LastGroup.{Last, last-found, last-clauses, last-zeros, last-start, start-inside}
-use Rattle.theory.proofs.Refusing.{not-passed, if-passes, most-passes, both-pass, last-passes, table-named, passed-named, first-named, if-named, most-named, number-not-refused, RefusedFirst, first-refuses, Refusing, accepted-is, refused-with, accepted-when, unchanged, call-names}
+use Rattle.theory.proofs.Refusing.{not-passed, if-passes, most-passes, both-pass, last-passes, table-named, passed-named, first-named, if-named, most-named, number-not-refused, first-refuses, Refusing, accepted-is, refused-with, accepted-when, unchanged, call-names}
 use Rattle.theory.proofs.Tables.{length-elements, accepted-exactly, accepted-closed, accepted-sizes, check-refuses}
 use Rattle.theory.proofs.Unknown.{none-named}
 use Rattle.add.specs.Addable.{Addable}

@@ -16,7 +16,7 @@ use Rattle.receipt.specs.declared.Checked.the-variants.{Passed, Refused}
 use Rattle.receipt.specs.declared.Outcome.{Outcome}
 use Rattle.receipt.specs.Receipt.{numberOf, namedClause, outcomeNumber, unknownVariable, refusal, receipt, refusedReceipt}
 use Rattle.receipt.proofs.Numbers.{answers, not-refused, outcome-answers}
-use Rattle.theory.specs.Refusing.{refusedIf, atMost, firstOf, firstRefusal, unless, NotRefused}
+use Rattle.theory.specs.Refusing.{refusedIf, atMost, firstOf, firstRefusal, RefusedFirst, unless, NotRefused}
 use Rattle.theory.specs.Table.{check}
 use Rattle.theory.specs.Unknown.{UnknownInTable, Names}
 use Rattle.theory.proofs.Unknown.{none-named, refusal-names, check-unknown}
@@ -59,13 +59,7 @@ all-pass (d ∷ cs) = (
   λ h. first-passed d (firstRefusal cs) .1 (h d (List·Memᴰ·head refl), all-pass cs .1 (λ c m. h c (List·Memᴰ·tail m))),
 )
 
--- the first that refuses gives the number and the place: those before it pass
-pub record RefusedFirst (cs : List Checked) (w : Refusal) : Type 0 where
-  pub before : List Checked
-  pub after : List Checked
-  pub whole : cs ≡ before ++ (Refused w ∷ after)
-  pub passed : firstRefusal before ≡ Passed
-
+-- the first that refuses gives the number and the place
 pub first-refuses : (cs : List Checked) (w : Refusal) → (firstRefusal cs ≡ Refused w) ↔ RefusedFirst cs w
 first-refuses cs w = (there cs, λ f. rw (f .whole) (back (f .before) (f .after) (f .passed)))
   where

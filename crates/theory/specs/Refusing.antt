@@ -1,6 +1,6 @@
 -- How a call is refused: checks in an order, each with its number and place. The first that refuses gives the answer, and "a refused call changes no lent element".
 use mathlib.Core.Bool.{Bool, cond}
-use mathlib.Core.List.{List, [], _∷_}
+use mathlib.Core.List.{List, [], _∷_, _++_}
 use mathlib.Core.Path.{_≡_}
 use Prim.Native.Nat.{ℕ}
 use lib.Dec.{ltb}
@@ -27,6 +27,13 @@ firstOf (Refused r) c = Refused r
 abbrev pub firstRefusal : List Checked → Checked
 firstRefusal [] = Passed
 firstRefusal (c ∷ cs) = firstOf c (firstRefusal cs)
+
+-- this refusal is given by the first check that refuses: those before it pass
+pub record RefusedFirst (cs : List Checked) (w : Refusal) : Type 0 where
+  pub before : List Checked
+  pub after : List Checked
+  pub whole : cs ≡ before ++ (Refused w ∷ after)
+  pub passed : firstRefusal before ≡ Passed
 
 -- what a call answers and leaves: what the refusal leaves where the checks refuse, and else what is accepted
 abbrev pub unless : {C : Type 0} → Checked → (Refusal → C) → C → C
