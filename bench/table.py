@@ -118,9 +118,11 @@ def reference(row, program):
 
 
 def rate(splits, seconds):
+    """Thousands of splits a second."""
     if splits == 0:
         return "-"
-    return "{:,.0f}".format(splits / seconds) if splits > 10 * seconds else "%.2g" % (splits / seconds)
+    thousands = splits / seconds / 1000
+    return "{:,.0f}".format(thousands) if thousands >= 10 else "%.2g" % thousands
 
 
 def shown(seconds, limit):
@@ -158,18 +160,17 @@ def head(cells):
 # The table and the growth of cost
 
 def table(strips, options):
-    columns = FILING + ["outcome", "count", "library splits/s", "independent splits/s", "ratio", "layout program s"]
-    columns += [name + " s" for name in SOLVERS] + ["ahead"]
+    columns = FILING + ["outcome", "count", "library", "independent", "ratio", "layout"] + list(SOLVERS) + ["ahead"]
     if options.reference:
-        columns += ["reference splits/s", "library to it", "independent to it"]
+        columns += ["reference", "library to it", "independent to it"]
     head(columns)
-    rows, first = [], 0
+    rows, cut, first = [], [], 0
     for row in measured(strips, options):
         whole = row["whole"] = whole_runs(row, options)
         row["ahead"] = ahead(row, whole)
         stopped = row["at"] < options.allowance and row["splits"] == row["at"]
         cells = filing_cells(row) + [OUTCOMES[row["number"]], "{:,}".format(row["count"])]
-        cells += [rate(row["splits"], row["library"]) + (" (first {:,})".format(row["at"]) if stopped else "")]
+        cells += [rate(row["splits"], row["library"]) + ("*" if stopped else "")]
         cells += [rate(row["splits"], row["independent"]), "%.2g" % (row["independent"] / row["library"])]
         cells += [shown(whole[name], options.limit) for name in SERIES if name != "independent"] + [row["ahead"]]
         if options.reference:
@@ -178,8 +179,11 @@ def table(strips, options):
             cells += ["%.2g" % (row["reference"] / row[name]) for name in ("library", "independent")]
         print_line(cells)
         rows.append(row)
+        cut += ["{} {:,}".format(row["name"], row["at"])] if stopped else []
         first += row["ahead"] == "library"
     print()
+    if cut:
+        print("\\* on the first splits of the tree, as many as the library makes in time: %s." % ", ".join(cut))
     library = mean([row["independent"] / row["library"] for row in rows])
     print("Geometric mean of the ratios, library to independent search: %.2g." % library)
     if options.reference:
@@ -195,8 +199,7 @@ def table(strips, options):
 def growth(strips, options):
     """All rows of a series at one allowance, the least that the library reached in any of them: the first splits of a
     tree may be cheaper than later ones."""
-    head(FILING + ["splits", "library, microseconds a call", "a split, nanoseconds", "independent, microseconds a call",
-                   "a split, nanoseconds"])
+    head(FILING + ["splits", "library, us a call", "a split, ns", "independent, us a call", "a split, ns"])
     series = {}
     for row in measured(strips, options):
         series.setdefault(row["name"].split("-")[0], []).append(row)

@@ -20,7 +20,7 @@ use Rattle.receipt.specs.declared.Reading.the-variants.{Read, Refused}
 use Rattle.receipt.specs.declared.Receipt.{Receipt}
 use Rattle.receipt.specs.declared.Refusal.{Refusal}
 use Rattle.receipt.specs.declared.Searching.{Searching}
-use Rattle.receipt.specs.Receipt.{numberOf, outcomeNumber, refusal, refusedReceipt}
+use Rattle.receipt.specs.Receipt.{numberOf, outcomeNumber, refusal, receipt, refusedReceipt}
 use Rattle.receipt.specs.Answers.{searchingReceipt}
 use Rattle.receipt.proofs.Numbers.{not-refused, outcome-answers}
 use Rattle.theory.specs.Bound.{N}
@@ -235,6 +235,13 @@ module _ {s : List ℕ} {n : ℕ} {l : List Item} {b : ℕ} {plan old : List ℕ
 
   all-stand : AllStand n (groups l)
   all-stand = rw is-formula at (mentioned-exactly n table (table-accepted n table .1 (call .acceptable .table)) .0 (h .acceptable .strip .mentioned))
+
+  -- 0 laid out, 10 no layout or 11 stopped on the receipt, with the count; place and group 0
+  pub window-answers : (o : Outcome) × (k : ℕ) × (receiptOn (w .receipt) ≡ receipt (outcomeNumber o) 0 k)
+  window-answers =
+      let a = promises.search-answers n table b plan trail found refl (promises.search-accepts n table b plan trail found refl .1 (call .acceptable)) in
+      let q : receiptOn (w .receipt) ≡ searchingReceipt (found .answer) = rw (window-searches .1) (receipt-read (searchingReceipt (found .answer)) old) in
+      (a .0, a .1, q ∙ a .2)
 
   -- demand 1: "a search brings back a layout, no layout, or a stop"
   pub window-ends : Reports w LaidOut ⊎ Reports w NoLayout ⊎ Reports w Stopped
