@@ -104,9 +104,9 @@ logged() { # a command; its output goes to the log, and is shown if it fails
 }
 
 build_command() { # each source by itself, so that two cores share them
-    mkdir -p "$build/command"
+    rm -rf "$build/command" && mkdir -p "$build/command" &&
     printf '%s\n' command/*.cpp | xargs -P "$(nproc)" -I{} sh -c \
-        'g++ -std=c++17 -O2 -Wall -Wextra -pthread -Iinclude -c "$1" -o "$2/$(basename "$1").o"' compile {} "$build/command"
+        'g++ -std=c++17 -O2 -Wall -Wextra -pthread -Iinclude -c "$1" -o "$2/$(basename "$1").o"' compile {} "$build/command" &&
     g++ -pthread "$build"/command/*.o target/staticlib/libplatewright.a -o "$build/platewright"
 }
 
@@ -179,8 +179,9 @@ to compile a program, with the shared library or with the static one:
     export PKG_CONFIG_PATH=$prefix/lib/pkgconfig
     gcc host.c \$(pkg-config --cflags --libs platewright) -Wl,-rpath,$prefix/lib -o host
     gcc host.c \$(pkg-config --cflags platewright) $prefix/lib/libplatewright.a -o host
-for Python:
+for Python, and for the shell:
     export PYTHONPATH=$prefix/share/platewright/python
+    export PATH=$prefix/bin:\$PATH
 END
 }
 

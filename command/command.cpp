@@ -39,10 +39,10 @@ void tell_progress(World &world, const Searched &s) {
 /* A drawing of layouts; where there is none to draw, the outcome is told on standard error. */
 int draw(const Options &options, World &world, const Set &set, const platewright_answer &answer,
          const std::vector<std::vector<uint8_t>> &plans) {
-    std::ostringstream drawing;
-    svg::draw(drawing, set, plans, options.columns);
-    if (answer.number == PLATEWRIGHT_LAID_OUT) world.out << drawing.str();
-    else world.err << "platewright: " << words_of(answer.number) << "\n";
+    bool laid_out = answer.number == PLATEWRIGHT_LAID_OUT;
+    std::ostringstream nowhere; /* a set that can't be drawn is refused all the same */
+    svg::draw(laid_out ? world.out : nowhere, set, plans, options.columns);
+    if (!laid_out) world.err << "platewright: " << words_of(answer.number) << "\n";
     return status_of(answer);
 }
 

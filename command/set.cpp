@@ -124,6 +124,7 @@ FurtherGroup further_group_of(const Set &set, const std::string &text) {
     FurtherGroup group;
     for (const Line &line : lines_of(GROUP_SOURCE, text))
         group.words.insert(group.words.end(), line.words.begin(), line.words.end());
+    if (group.words.empty()) throw Fault("a group with nothing in it is written .").in(GROUP_SOURCE);
     if (is_nothing(group.words)) group.words.clear();
     for (const Word &word : group.words) {
         if (set.kind != Kind::names) {

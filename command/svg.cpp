@@ -43,7 +43,7 @@ struct Natural {
         return std::max<size_t>(1, static_cast<size_t>(end - text.begin()));
     }
 
-    /* As numbers; of two that are equal the shorter one first, so that `1` and `01` stay apart. */
+    /* As numbers; two that are equal by their digits, so that `1` and `01` stay apart. */
     static int by_size(std::string_view a, std::string_view b) {
         auto digits = [](std::string_view t) { return t.substr(std::min(t.find_first_not_of('0'), t.size())); };
         std::string_view x = digits(a), y = digits(b);

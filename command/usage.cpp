@@ -22,13 +22,13 @@ class Help : public CLI::Formatter {
 /* CLI11 would read a number that begins with 0 as octal. */
 const CLI::Validator DECIMAL(
     [](std::string &number) {
-        bool digits = number.find_first_not_of("0123456789") == std::string::npos;
+        bool digits = !number.empty() && number.find_first_not_of("0123456789") == std::string::npos;
         return digits && (number.size() == 1 || number[0] != '0') ? "" : number + " is no decimal number";
     },
     "");
 const CLI::Validator SECONDS(
     [](std::string &number) {
-        bool digits = number.find_first_not_of("0123456789.") == std::string::npos;
+        bool digits = !number.empty() && number.find_first_not_of("0123456789.") == std::string::npos;
         return digits ? "" : number + " is no time in seconds";
     },
     "");

@@ -2,6 +2,9 @@
 # Sees to it that what the tests need is installed: installs Debian's packages where something is missing, and says
 # what can't be had.
 set -eu
+case ${TMPDIR:-/tmp} in
+*[[:space:]]*) echo "TMPDIR has white space in it, which pkg-config can't hand on: $TMPDIR" >&2; exit 1 ;;
+esac
 packages=(gcc g++ libc6-dev binutils bsdutils diffutils python3 pkg-config)
 packages+=(librapidcheck-dev libcli11-dev nlohmann-json3-dev)
 missing=()

@@ -29,7 +29,7 @@ read -ra with <<<"$(pkg-config --cflags platewright)"
 archive=$prefix/lib/libplatewright.a
 
 step "exported names"
-exported() { nm "$@" | sed -n 's/^[0-9a-f]* T //p' | sort; }
+exported() { nm --defined-only "$@" | sed -n 's/^[0-9a-f]* [A-Z] //p' | sort; }
 declared=$(grep -o 'platewright_[a-z_]*(' include/platewright.h | tr -d '(' | sort -u)
 same "the archive" "$(exported -g "$archive")" "$declared"
 same "the shared library" "$(exported -D "$prefix/lib/libplatewright.so")" "$declared"
@@ -142,12 +142,25 @@ for program in layout strip_of; do
 done
 echo "said"
 
+# the stored cases on a build with the sanitizers, and one search by the installed program
 step "the command"
 grep -qF "\"platewright $(sed -n 's/^#define PLATEWRIGHT_VERSION "\(.*\)"$/\1/p' include/platewright.h)\"" \
     command/platewright.1 || { echo "the man page has another version than the header"; exit 1; }
-tests/command/run.sh "$prefix/bin/platewright" >"$room/command.log" || { cat "$room/command.log"; exit 1; }
+mkdir "$room/command"
+(
+    cd command
+    printf '%s\n' ./*.cpp | xargs -P "$(nproc)" -I{} \
+        g++ -std=c++17 "${sanitized[@]}" -pthread "${with[@]}" -c {} -o "$room/command/{}.o"
+)
+g++ "${sanitized[@]}" -pthread "$room"/command/*.o "$archive" -o "$room/command/platewright"
+tests/command/run.sh "$room/command/platewright" >"$room/command.log" || { cat "$room/command.log"; exit 1; }
 tr '\n' ';' <"$room/command.log"
-tests/command/fuzz.sh "$archive" >"$room/fuzz.log" 2>&1 || { cat "$room/fuzz.log"; exit 1; }
+same "the installed command" "$(echo 3 1 2 3 0 | "$prefix/bin/platewright" search)" \
+    $'laid out\nsplits 1\ntaken 3\ntrail -1'
+rm "$room/command/main.cpp.o" "$room/command/usage.cpp.o"
+g++ -std=c++17 "${sanitized[@]}" "${with[@]}" -Icommand tests/command/fuzz.cpp "$room"/command/*.o "$archive" \
+    -o "$room/fuzz"
+"$room/fuzz" >"$room/fuzz.log" 2>&1 || { cat "$room/fuzz.log"; exit 1; }
 tail -n 1 "$room/fuzz.log"
 
 step "names in the documents"

@@ -15,6 +15,8 @@ g++ "$work"/*.o "$archive" -lrapidcheck -o "$work/trials"
 "$work/trials" hand check index search settle list edits read save window properties >/dev/null
 echo "no fault: nothing found"
 
+"$work/trials" programs >"$work/programs"
+[ -s "$work/programs" ] || { echo "no wrong program is listed"; exit 1; }
 missed=0
 while read -r number where what; do
     status=0
@@ -25,6 +27,6 @@ while read -r number where what; do
         echo "$where: $what: NOT FOUND"
         missed=$((missed + 1))
     fi
-done < <("$work/trials" programs)
+done <"$work/programs"
 [ "$missed" = 0 ] || { echo "wrong programs that were not found: $missed"; exit 1; }
 echo "all wrong programs were found"
