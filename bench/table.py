@@ -160,7 +160,7 @@ def head(cells):
 # The table and the growth of cost
 
 def table(strips, options):
-    columns = FILING + ["outcome", "count", "library", "independent", "ratio", "layout"] + list(SOLVERS) + ["ahead"]
+    columns = FILING + ["outcome", "count", "library", "own", "ratio", "layout"] + list(SOLVERS) + ["ahead"]
     if options.reference:
         columns += ["reference", "library to it", "independent to it"]
     head(columns)
@@ -183,7 +183,7 @@ def table(strips, options):
         first += row["ahead"] == "library"
     print()
     if cut:
-        print("\\* on the first splits of the tree, as many as the library makes in time: %s." % ", ".join(cut))
+        print("\\* on the first splits of the tree: %s." % ", ".join(cut))
     library = mean([row["independent"] / row["library"] for row in rows])
     print("Geometric mean of the ratios, library to independent search: %.2g." % library)
     if options.reference:
