@@ -16,7 +16,7 @@ use Rattle.receipt.specs.declared.Adding.the-variants as adding
 use Rattle.receipt.specs.declared.Checked.the-variants.{Passed, Refused}
 use Rattle.receipt.specs.declared.Fault.the-variants.{TooManyClauses, TooManyLiterals, UsedLengthWrong, TableShort}
 use Rattle.receipt.specs.declared.Refusal.{Refusal}
-use Rattle.theory.specs.Calls.{AddCall, addRefused, isWrong, addedCall, checkGroup, checkAdded, addCall}
+use Rattle.theory.specs.Calls.{AddCall, addRefused, isWrong, unknownIn, addedCall, checkGroup, checkAdded, addCall}
 use Rattle.theory.specs.Formula.{clauses}
 use Rattle.theory.specs.Refusing.{atMost, NotRefused, RefusedFirst}
 use Rattle.theory.specs.Table.{zeros, nonzeros, check, Accepted, WithinLimits}
@@ -27,7 +27,7 @@ use Rattle.theory.proofs.Unknown.{none-named}
 use Rattle.add.specs.Add.{called}
 use Rattle.add.specs.Addable.{Follows, Addable}
 use Rattle.add.proofs.Growing.{grown-limits, grown-clauses, added-table, added-before, added-list, added-after}
-use Rattle.add.proofs.Refusals.{checked-exactly, added-exactly, list-refused}
+use Rattle.add.proofs.Refusals.{checked-exactly, added-exactly, list-unknown-refused}
 use Rattle.add.proofs.Unknown.{group-named}
 
 abbrev pub numberOf : Adding → ℕ
@@ -89,6 +89,18 @@ module _ {u n : ℕ} {g b : List ℤ} {r : Adding} {b′ : List ℤ} (c : Call u
   pub add-refused : (w : Refusal) → (r ≡ adding.Refused w) ↔ RefusedFirst (checkGroup u n g b ∷ atMost (u + length g + 1) (length b) TableShort ∷ []) w
   add-refused w = (λ e. let o = unchanged by-checks w e in let q : o .0 ≡ w = cc (ap (λ (x : AddCall). x .answer) (o .2)) in first-refuses (checkGroup u n g b ∷ atMost (u + length g + 1) (length b) TableShort ∷ []) w .0 (rw q at (o .1)), λ f. refused-with by-checks w (first-refuses (checkGroup u n g b ∷ atMost (u + length g + 1) (length b) TableShort ∷ []) w .1 f))
 
+  -- and those of the group: "12, then 1 to 5 on the used part, 2 and 3 with the group added .., 5 on the list"
+  pub add-group-refused : (w : Refusal) → (checkGroup u n g b ≡ Refused w) ↔ RefusedFirst (
+      atMost u (length b) UsedLengthWrong ∷
+      check n (take u b) ∷
+      atMost (zeros (take u b) + 1) maxClauses TooManyClauses ∷
+      atMost (nonzeros (take u b) + length g) maxLiterals TooManyLiterals ∷
+      unknownIn u (zeros (take u b) + 1) n g ∷
+      []
+      ) w
+  unfolding checkGroup
+  add-group-refused w = first-refuses _ w
+
   -- each refusal in its order --------------------------------------------------------------------------------------------
 
   -- "Add: 12," a used length above the buffer's
@@ -126,7 +138,7 @@ module _ {u n : ℕ} {g b : List ℤ} {r : Adding} {b′ : List ℤ} (c : Call u
           accepted,
           le-ltb maxClauses (zeros (take u b) + 1) few,
           le-ltb maxLiterals (nonzeros (take u b) + length g) h,
-          list-refused u (zeros (take u b) + 1) n g i f,
+          list-unknown-refused u (zeros (take u b) + 1) n g i f,
         ))
 
     -- "23": a list that may follow, without room for it and its 0

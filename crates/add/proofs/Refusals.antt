@@ -97,9 +97,9 @@ list-passes u k n g = (
 )
 
 -- where it isn't, the first wrong element is named
-pub list-refused : (u k n : ℕ) (g : List ℤ) (i : ℕ) → First (isWrong n) g i → unknownIn u k n g ≡ refused (unknownVariable k) (u + i)
+pub list-unknown-refused : (u k n : ℕ) (g : List ℤ) (i : ℕ) → First (isWrong n) g i → unknownIn u k n g ≡ refused (unknownVariable k) (u + i)
 unfolding unknownIn
-list-refused u k n g i f = go (firstPlace (isWrong n) u g) refl
+list-unknown-refused u k n g i f = go (firstPlace (isWrong n) u g) refl
   where
     -- an element that is wrong is not before the first
     late : (j : ℕ) → First (isWrong n) g j → ¬ (i < j)

@@ -53,7 +53,7 @@ fn first_refusal(first: Checked, second: Checked) -> Checked
     }
 }
 
-// "Add: 12, then 1 to 5 on the used part, 2 and 3 with the group added, 5 on the list": all but the room.
+// "Add: 12, then 1 to 5 on the used part, 2 and 3 with the group added .., 5 on the list": all but the room.
 fn check_group(buffer: &[i16], used: usize, n: usize, group: &[i16]) -> Checked
     ensures { λ r. ⌜ r ≡ checkGroup used n (now (group .entry)) (now (buffer .entry)) ⌝ }
 {

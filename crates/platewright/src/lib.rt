@@ -155,6 +155,7 @@ pub extern "C" fn platewright_preview(
     reasons: &mut [u16],
 ) -> Answer
     ensures { λ r. ⌜ (r, (now (list .exit), now (reasons .exit))) ≡ settled (previewCall used n (now (group .entry)) (now (buffer .entry)) (now (list .entry)) (now (reasons .entry))) ⌝ }
+    ensures { λ _. ⌜ now (buffer .exit) ≡ now (buffer .entry) ⌝ }
 {
     let r = preview::preview(buffer, used, n, group, list, reasons);
     plain(r.receipt())

@@ -24,7 +24,7 @@ use Rattle.receipt.specs.declared.Saving.the-variants.{Refused}
 use Rattle.theory.specs.Calls.{over, SaveCall, saveRefused, savedCall, saveCheck, saveCall, readCall}
 use Rattle.theory.specs.Encoding.{savedStrip, savedLength, Unchaptered, Bytes}
 use Rattle.theory.specs.Mentions.{mentionsAll, Mentioned}
-use Rattle.theory.specs.Refusing.{atMost, firstRefusal, NotRefused, RefusedFirst}
+use Rattle.theory.specs.Refusing.{refusedIf, atMost, firstRefusal, NotRefused, RefusedFirst}
 use Rattle.theory.specs.Strip.{Decoding, readStrip}
 use Rattle.theory.specs.Table.{zeros, nonzeros, check, Accepted, WithinLimits}
 use Rattle.theory.specs.Unknown.{UnknownInTable, Names}
@@ -96,6 +96,11 @@ module _ {n : ℕ} {t : List ℤ} {s : List ℕ} {r : Saving} {s′ : List ℕ} 
   -- refused exactly with the first check that refuses
   pub save-refused : (w : Refusal) → (r ≡ Refused w) ↔ RefusedFirst checks w
   save-refused w = (λ e. let o = unchanged by-checks w e in let q : o .0 ≡ w = cc (ap (λ (x : SaveCall). x .answer) (o .2)) in first-refuses checks w .0 (rw q at (o .1)), λ f. refused-with by-checks w (first-refuses checks w .1 f))
+
+  -- and what is asked of the table: 1 to 5, then 26
+  pub save-check-refused : (w : Refusal) → (saveCheck n t ≡ checked.Refused w) ↔ RefusedFirst (check n t ∷ refusedIf (not (mentionsAll n t)) UnmentionedVariable ∷ []) w
+  unfolding saveCheck
+  save-check-refused w = first-refuses _ w
 
   -- "Turned away: 1 to 5 as for any table"
   pub save-table-refused : (w : Refusal) → check n t ≡ checked.Refused w → r ≡ Refused w

@@ -67,12 +67,12 @@ module _ (s : List ℕ) (t : List ℤ) (r : Reading) (t′ : List ℤ) (is : cal
     λ w. reading-is ∙ ap (λ (d : Decoding). d .reading) (within-reads s b (length t) n (w .0) (w .1) (omega (arith, w .2, w .3))) ∙ ap (Read n) (sym (w .2)),
   )
 
-  -- 16 strip read, with n and the used length
-  pub read-answers : NotRefused Refused r → (readingReceipt r ≡ receipt 16 0 0) × (r ≡ Read (readVariables r) (readLength r))
+  -- 16 strip read; `read-accepts` says of which n and used length
+  pub read-answers : NotRefused Refused r → readingReceipt r ≡ receipt 16 0 0
   read-answers = go r
     where
-      go : (x : Reading) → NotRefused Refused x → (readingReceipt x ≡ receipt 16 0 0) × (x ≡ Read (readVariables x) (readLength x))
-      go (Read n u) h = (refl, refl)
+      go : (x : Reading) → NotRefused Refused x → readingReceipt x ≡ receipt 16 0 0
+      go (Read n u) h = refl
       go (Refused f) h = absurd (h f refl)
 
   -- "a refused call changes no lent element"; n and the used length are "both 0 on refusal"
@@ -129,7 +129,7 @@ module _ (s : List ℕ) (t : List ℤ) (r : Reading) (t′ : List ℤ) (is : cal
   pub read-unmentioned : Bytes s → (i : ℕ) → (r ≡ Refused (refusal UnmentionedVariable i)) ↔ UnmentionedInStrip s (length t) i
   read-unmentioned b i = let x = unmentioned-exactly s b (length t) i in (λ e. x .0 (sym reading-is ∙ e), λ w. reading-is ∙ x .1 w)
 
-  -- no placement is left out "for want of a rule": each stands in a group of the table that was read
+  -- no placement is left out for want of a rule: each stands in a group of the table that was read
   pub read-mentions-all : (n u : ℕ) → r ≡ Read n u → AllStand n (clauses (take u t′))
   read-mentions-all n u e =
       let q : readStrip s (length t) .reading ≡ Read n u = sym reading-is ∙ e in

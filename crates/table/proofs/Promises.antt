@@ -11,9 +11,12 @@ use Rattle.receipt.specs.Receipt.{done, receipt}
 use Rattle.receipt.specs.Answers.{checkedReceipt}
 use Rattle.receipt.specs.declared.Checked.{Checked}
 use Rattle.receipt.specs.declared.Checked.the-variants.{Passed, Refused}
+use Rattle.receipt.specs.declared.Refusal.{Refusal}
 use Rattle.receipt.proofs.Numbers.{not-refused}
+use Rattle.theory.specs.Refusing.{firstRefusal, RefusedFirst, tableChecks}
 use Rattle.theory.specs.Table.{check, WithinLimits}
 use Rattle.theory.specs.Unknown.{UnknownInTable, Names}
+use Rattle.theory.proofs.Refusing.{first-refuses, check-first}
 use Rattle.theory.proofs.Tables.{accepted-exactly}
 use Rattle.theory.proofs.Unknown.{none-named, check-names as definition-names}
 use Rattle.table.specs.declared.Pass.{Pass}
@@ -84,6 +87,13 @@ module _ {n : ℕ} {ts : List (List ℤ)} {r : Checked} (c : Call n ts r) where
       back : (k : Checked) → checkedReceipt k .number ≡ done → k ≡ Passed
       back Passed e = refl
       back (Refused w) e = absurd (not-refused (w .fault) done refl e)
+
+  -- "Tables: 1, 2, 3, 4, 5": refused exactly with the first check that refuses, of the whole list
+  pub check-refused : (w : Refusal) → (r ≡ Refused w) ↔ RefusedFirst (tableChecks n (flatten ts)) w
+  check-refused w =
+      let e : r ≡ firstRefusal (tableChecks n (flatten ts)) = check-parts c ∙ check-first n (flatten ts) in
+      let f = first-refuses (tableChecks n (flatten ts)) w in
+      (λ q. f .0 (sym e ∙ q), λ g. e ∙ f .1 g)
 
   -- A2: 5 is for the first unknown placement of the whole list, with its group; "for all other numbers it is 0"
   pub check-names : Names (UnknownInTable n (flatten ts)) (checkedReceipt r)

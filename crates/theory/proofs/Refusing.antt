@@ -1,6 +1,6 @@
 -- Checks in their order, and calls that they refuse: refused exactly when some check refuses, with the number and place of the first that does, and nothing changed.
 use mathlib.Core.Path.{_≡_, refl, ap, sym, _∙_}
-use mathlib.Core.Bool.{Bool, true, false, true≢false}
+use mathlib.Core.Bool.{Bool, true, false, true≢false, cond}
 use mathlib.Core.Logic.{_↔_, _≢_, ⊎-elim}
 use mathlib.Core.List.{List, [], _∷_, _++_, List·Memᴰ, List·Memᴰ·head, List·Memᴰ·tail, List·Memᴰ·not-nil, List·Memᴰ·cases-cons}
 use Prim.Native.Nat.{ℕ, _≤_}
@@ -8,7 +8,10 @@ use native.Mathlib.Omega.{arith}
 use borrow.Author.Tests.{ltb-false, le-ltb}
 use lib.Dec.{ltb}
 use lib.IntN.{ℤ}
+use Rattle.general.specs.Search.{firstPlace}
+use Rattle.literal.specs.Literal.{maxVariables, maxClauses, maxLiterals}
 use Rattle.receipt.specs.declared.Fault.{Fault}
+use Rattle.receipt.specs.declared.Fault.the-variants.{TooManyVariables, TooManyClauses, TooManyLiterals, OpenClause}
 use Rattle.receipt.specs.declared.Refusal.{Refusal}
 use Rattle.receipt.specs.declared.Receipt.{Receipt}
 use Rattle.receipt.specs.declared.Checked.{Checked}
@@ -16,8 +19,8 @@ use Rattle.receipt.specs.declared.Checked.the-variants.{Passed, Refused}
 use Rattle.receipt.specs.declared.Outcome.{Outcome}
 use Rattle.receipt.specs.Receipt.{numberOf, namedClause, outcomeNumber, unknownVariable, refusal, receipt, refusedReceipt}
 use Rattle.receipt.proofs.Numbers.{answers, not-refused, outcome-answers}
-use Rattle.theory.specs.Refusing.{refusedIf, atMost, firstOf, firstRefusal, RefusedFirst, unless, NotRefused}
-use Rattle.theory.specs.Table.{check}
+use Rattle.theory.specs.Refusing.{refusedIf, atMost, firstOf, firstRefusal, RefusedFirst, tableChecks, unless, NotRefused}
+use Rattle.theory.specs.Table.{zeros, nonzeros, endsOpen, refused, isUnknown, tableUnknown, check}
 use Rattle.theory.specs.Unknown.{UnknownInTable, Names}
 use Rattle.theory.proofs.Unknown.{none-named, refusal-names, check-unknown}
 
@@ -81,6 +84,20 @@ first-assoc (Refused r) b c = refl
 pub first-last : (c : Checked) → firstOf c Passed ≡ c
 first-last Passed = refl
 first-last (Refused r) = refl
+
+-- document 01's check is its checks in their order
+pub check-first : (n : ℕ) (t : List ℤ) → check n t ≡ firstRefusal (tableChecks n t)
+unfolding check
+check-first n t =
+    or (ltb maxVariables n) TooManyVariables
+    (or (ltb maxClauses (zeros t)) TooManyClauses
+    (or (ltb maxLiterals (nonzeros t)) TooManyLiterals
+    (or (endsOpen false t) OpenClause
+    (sym (first-last (tableUnknown t (firstPlace (isUnknown n) 0 t)))))))
+  where
+    or : (test : Bool) (why : Fault) {k l : Checked} → k ≡ l → cond test (refused why 0) k ≡ firstOf (refusedIf test why) l
+    or true why e = refl
+    or false why e = e
 
 -- what a check names, where it refuses with 5 ------------------------------------------------------------------------
 

@@ -1,14 +1,18 @@
 -- How a call is refused: checks in an order, each with its number and place. The first that refuses gives the answer, and "a refused call changes no lent element".
-use mathlib.Core.Bool.{Bool, cond}
+use mathlib.Core.Bool.{Bool, false, cond}
 use mathlib.Core.List.{List, [], _∷_, _++_}
 use mathlib.Core.Path.{_≡_}
 use Prim.Native.Nat.{ℕ}
 use lib.Dec.{ltb}
+use lib.IntN.{ℤ}
+use Rattle.general.specs.Search.{firstPlace}
+use Rattle.literal.specs.Literal.{maxVariables, maxClauses, maxLiterals}
 use Rattle.receipt.specs.declared.Fault.{Fault}
+use Rattle.receipt.specs.declared.Fault.the-variants.{TooManyVariables, TooManyClauses, TooManyLiterals, OpenClause}
 use Rattle.receipt.specs.declared.Refusal.{Refusal}
 use Rattle.receipt.specs.declared.Checked.{Checked}
 use Rattle.receipt.specs.declared.Checked.the-variants.{Passed, Refused}
-use Rattle.theory.specs.Table.{refused}
+use Rattle.theory.specs.Table.{zeros, nonzeros, endsOpen, refused, isUnknown, tableUnknown}
 
 -- refused at place 0 where the test holds
 abbrev pub refusedIf : Bool → Fault → Checked
@@ -34,6 +38,16 @@ pub record RefusedFirst (cs : List Checked) (w : Refusal) : Type 0 where
   pub after : List Checked
   pub whole : cs ≡ before ++ (Refused w ∷ after)
   pub passed : firstRefusal before ≡ Passed
+
+-- the table check, by its checks: "Tables: 1, 2, 3, 4, 5"
+abbrev pub tableChecks : ℕ → List ℤ → List Checked
+tableChecks n t =
+    atMost n maxVariables TooManyVariables ∷
+    atMost (zeros t) maxClauses TooManyClauses ∷
+    atMost (nonzeros t) maxLiterals TooManyLiterals ∷
+    refusedIf (endsOpen false t) OpenClause ∷
+    tableUnknown t (firstPlace (isUnknown n) 0 t) ∷
+    []
 
 -- what a call answers and leaves: what the refusal leaves where the checks refuse, and else what is accepted
 abbrev pub unless : {C : Type 0} → Checked → (Refusal → C) → C → C

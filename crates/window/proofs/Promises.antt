@@ -39,7 +39,9 @@ use Rattle.theory.proofs.Tables.{accepted-sizes, accepted-exactly as table-acce
 use Rattle.strip.proofs.Accepted.{read-accepted}
 use Rattle.strip.proofs.Ends.{never-short}
 use Rattle.strip.proofs.Encoded.{within-read}
+use Rattle.strip.proofs.Faults.{refused-exactly}
 use Rattle.strip.proofs.Promises.{read-accepts}
+use Rattle.strip.specs.Faults.{RefusedStrip}
 use Rattle.search.specs.Call as search
 use Rattle.strip.proofs.Receipts.{strip-names, strip-unmentioned}
 use Rattle.strip.proofs.Unmentioned.{unmentioned-exactly}
@@ -130,9 +132,13 @@ module _ {s : List ℕ} {b : ℕ} {plan old : List ℕ} {w : WindowCall} (h : St
         let a = accepted-sizes n (readStrip s maxTable .table) (read-accepted s maxTable n u e) in
         record { acceptable = record { table = a; plan-room = k; trail-room = omega (arith, a .variables, length-replicate maxVariables (posℤ 0)) }; is = refl }
 
+  -- a strip that reads, with more placements than the plan has room for
+  abbrev Overlong : Type 0
+  Overlong = (n : ℕ) × (u : ℕ) × (readStrip s maxTable .reading ≡ Read n u) × (length plan < n)
+
   -- every call is refused, or searches what was read
   abbrev Turned : Type 0
-  Turned = (f : Refusal) × (w ≡ refusedCall f plan old) × ((readStrip s maxTable .reading ≡ Refused f) ⊎ (f ≡ refusal PlanShort 0))
+  Turned = (f : Refusal) × (w ≡ refusedCall f plan old) × ((readStrip s maxTable .reading ≡ Refused f) ⊎ ((f ≡ refusal PlanShort 0) × Overlong))
 
   abbrev Answered : Type 0
   Answered = (n : ℕ) × (u : ℕ) × (readStrip s maxTable .reading ≡ Read n u) × (n ≤ length plan) × ((o : Outcome) × Reports w o)
@@ -143,7 +149,7 @@ module _ {s : List ℕ} {b : ℕ} {plan old : List ℕ} {w : WindowCall} (h : St
       go : (r : Reading) → readStrip s maxTable .reading ≡ r → Turned ⊎ Answered
       go (Refused f) e = inl (f, window-strip-refused f e, inl e)
       go (Read n u) e = elim (decLt (length plan) n) [
-        | yes k ↦ inl (refusal PlanShort 0, window-plan-short n u e k, inr refl)
+        | yes k ↦ inl (refusal PlanShort 0, window-plan-short n u e k, inr (refl, (n, u, e, k)))
         | no k ↦
             let l : n ≤ length plan = omega arith in
             let q = ap (λ (c : WindowCall). c .number) (read n u e) in
@@ -157,12 +163,19 @@ module _ {s : List ℕ} {b : ℕ} {plan old : List ℕ} {w : WindowCall} (h : St
   pub window-refused-unchanged : ((o : Outcome) → ¬ Reports w o) → (f : Refusal) × (w ≡ refusedCall f plan old)
   window-refused-unchanged k = ⊎-elim (λ r. (r .0, r .1)) (λ a. absurd (k (a .4 .0) (a .4 .1))) fate
 
+  -- "Window: 9, strip refusals except 23, then 6": a refused call has what the strip is refused with, or, of one that reads, 6
+  pub window-refused : ((o : Outcome) → ¬ Reports w o) → (f : Refusal) × (w ≡ refusedCall f plan old) × (RefusedStrip s maxTable f ⊎ ((f ≡ refusal PlanShort 0) × Overlong))
+  window-refused k = ⊎-elim
+      (λ r. (r .0, r .1, ⊎-elim (λ q. inl (refused-exactly s maxTable (r .0) .0 q)) (λ q. inr q) (r .2)))
+      (λ a. absurd (k (a .4 .0) (a .4 .1)))
+      fate
+
   -- a number above 11 is that of a refusal of the strip
   of-strip : 11 < w .number → (f : Refusal) × (w ≡ refusedCall f plan old) × (readStrip s maxTable .reading ≡ Refused f)
   of-strip k = ⊎-elim
       (λ r. ⊎-elim
       (λ q. (r .0, r .1, q))
-      (λ q. absurd (omega (arith, ap (λ (c : WindowCall). c .number) (r .1), ap (λ (f : Refusal). numberOf (f .fault)) q)))
+      (λ q. absurd (omega (arith, ap (λ (c : WindowCall). c .number) (r .1), ap (λ (f : Refusal). numberOf (f .fault)) (q .0))))
       (r .2))
       (λ a. absurd (omega (arith, a .4 .1, outcome-low (a .4 .0))))
       fate
@@ -302,7 +315,7 @@ window-accepts {s} h bytes = (
   λ a. ⊎-elim (λ e. (LaidOut, e)) (⊎-elim (λ e. (NoLayout, e)) (λ e. (Stopped, e))) (window-ends (record { bytes = bytes; acceptable = a .2; stamped = h })),
 )
 
--- A3: no placement is left out "for want of a rule": what is searched is a strip's groups, and each placement stands in one of them
+-- A3: no placement is left out for want of a rule: what is searched is a strip's groups, and each placement stands in one of them
 pub window-mentions-all : {s : List ℕ} {b : ℕ} {plan old : List ℕ} {w : WindowCall} → Stamped s b plan old w → Bytes s → (o : Outcome) → Reports w o →
     (n : ℕ) × (l : List Item) × Acceptable s n l plan × AllStand n (groups l)
 window-mentions-all h bytes o r =
