@@ -35,7 +35,7 @@ static double measure(const char *path) {
 
 int main(int argc, char **argv) {
     print_head({"filing", "n", "groups", "entries", "number", "rows", "more", "splits", "us",
-        "split, ns", "row, ns", "own us", "split, ns", "ratio"});
+        "split ns", "row ns", "own us", "split ns", "ratio"});
     Largest longest = largest_of(argc - 1, argv + 1, measure);
     printf("\nThe longest split: %s, %.1f milliseconds.\n", longest.name.c_str(), longest.figure);
     return 0;
