@@ -68,6 +68,11 @@ module _ (s : ℕ) where
   next-clause (posℤ (suc p) ∷ t) c f h k = rw (eqb·suc-zero p) (next-push (Pos (suc p)) t c f k (λ d e. next-clause t d f e (suc k)) (clauses t) refl h)
   next-clause (negsuc p ∷ t) c f h k = rw (eqb·suc-zero p) (next-push (Neg (suc p)) t c f k (λ d e. next-clause t d f e (suc k)) (clauses t) refl h)
 
+pub heads-length : (r : ℕ) (t : List ℤ) (at : ℕ) → length (headsAt r t at) ≡ r
+unfolding headsAt
+heads-length zero t at = refl
+heads-length (suc r) t at = ap suc (heads-length r t (nextHead t at .next))
+
 heads-are : (t : List ℤ) (f : Formula) (s : ℕ) → clauses (drop s t) ≡ f → headsAt (length f) t s ≡ headsFrom s f
 unfolding headsAt headsFrom
 heads-are t [] s e = refl

@@ -1,24 +1,22 @@
 -- Heads stored in two lists of numbers are heads stored in one list of heads.
 use mathlib.Core.Path.{_≡_, refl, ap, _∙_}
-use mathlib.Core.List.{List, [], _∷_, _++_, map, append-assoc}
-use Prim.Native.Nat.{ℕ, zero, suc, _+_, _-_, _<_, _≤_}
-use native.Mathlib.Decide.{decLt}
+use mathlib.Core.List.{List, [], _∷_, _++_, map, append-assoc, map-append}
+use Prim.Native.Nat.{ℕ, zero, suc, _+_, _-_, _<_, _≤_, min}
 use native.Mathlib.Nat.{zero-add}
 use native.Mathlib.Numerals.{add-one}
 use native.Mathlib.Omega.{arith}
 use lib.IntN.{ℤ}
 use lib.ListN.{length, set, drop, length-set, length-map}
 use lib.Seq.{sets, sets-eq, length-sets}
-use borrow.Author.Tests.{lt-ltb, le-ltb}
 use Rattle.receipt.specs.declared.Head.{Head}
 use Rattle.receipt.specs.Answers.{indexingReceipt}
 use Rattle.theory.specs.Calls.{over, IndexCall, indexCall}
 use Rattle.index.specs.declared.Next.{Next}
 use Rattle.index.specs.declared.Due.{Due}
 use Rattle.index.specs.Index.{nextHead, headsAt, dueOf, called}
-use Rattle.index.proofs.Heads.{index-stored, due-room}
+use Rattle.index.proofs.Heads.{heads-length, index-stored, due-room}
 use Rattle.platewright.specs.Answer.{plain}
-use Rattle.platewright.specs.Heads.{startOf, entriesOf, paired, indexed, shorter}
+use Rattle.platewright.specs.Heads.{startOf, entriesOf, paired, indexed}
 
 -- the loop: those from k on are still to be stored, of the groups from `at` on
 pub record Storing (f : Head → ℕ) (count : ℕ) (t : List ℤ) (l₀ l : List ℕ) (at k : ℕ) : Type 0 where
@@ -44,24 +42,11 @@ module _ (f : Head → ℕ) (count : ℕ) (t : List ℤ) (l₀ : List ℕ) where
     storing-ended h = let z : count - k ≡ 0 = omega arith in rw z at (s .goal)
 
 -- what two lists of numbers and the list of heads that they are have in common
-suc-shorter : (a b : ℕ) → suc (shorter a b) ≡ shorter (suc a) (suc b)
-suc-shorter a b = elim (decLt a b) [
-  | yes p ↦ rw (lt-ltb a b p, lt-ltb (suc a) (suc b) (omega arith))
-  | no p ↦ rw (le-ltb a b (omega arith), le-ltb (suc a) (suc b) (omega arith))
-]
-
-pub paired-length : (ss es : List ℕ) → length (paired ss es) ≡ shorter (length ss) (length es)
+pub paired-length : (ss es : List ℕ) → length (paired ss es) ≡ min (length ss) (length es)
 unfolding paired
-paired-length [] [] = refl
-paired-length [] (e ∷ es) = rw (lt-ltb 0 (suc (length es)) (omega arith))
-paired-length (s ∷ ss) [] = rw (le-ltb (suc (length ss)) 0 (omega arith))
-paired-length (s ∷ ss) (e ∷ es) = ap suc (paired-length ss es) ∙ suc-shorter (length ss) (length es)
-
-pub shorter-left : (a b : ℕ) → shorter a b ≤ a
-shorter-left a b = elim (decLt a b) [ yes p ↦ rw (lt-ltb a b p) (omega arith) | no p ↦ rw (le-ltb a b (omega arith)) (omega arith) ]
-
-pub shorter-right : (a b : ℕ) → shorter a b ≤ b
-shorter-right a b = elim (decLt a b) [ yes p ↦ rw (lt-ltb a b p) (omega arith) | no p ↦ rw (le-ltb a b (omega arith)) (omega arith) ]
+paired-length [] es = omega arith
+paired-length (s ∷ ss) [] = omega arith
+paired-length (s ∷ ss) (e ∷ es) = omega (arith, paired-length ss es)
 
 -- a list of numbers l is what f reads of the heads hs, and what is past them
 pub record Reads (f : Head → ℕ) (hs : List Head) (l : List ℕ) : Type 0 where
@@ -86,15 +71,6 @@ rest-entries (s ∷ ss) [] (suc h) i = refl
 rest-entries (s ∷ ss) (e ∷ es) zero i = ap (λ (l : List ℕ). e ∷ l) (rest-entries ss es 0 (omega arith))
 rest-entries (s ∷ ss) (e ∷ es) (suc h) i = rest-entries ss es h (omega arith)
 
-heads-length : (r : ℕ) (t : List ℤ) (at : ℕ) → length (headsAt r t at) ≡ r
-unfolding headsAt
-heads-length zero t at = refl
-heads-length (suc r) t at = ap suc (heads-length r t (nextHead t at .next))
-
-map-append : (f : Head → ℕ) (a b : List Head) → map f (a ++ b) ≡ map f a ++ map f b
-map-append f [] b = refl
-map-append f (x ∷ a) b = ap (λ (l : List ℕ). f x ∷ l) (map-append f a b)
-
 stored : (f : Head → ℕ) (hs : List Head) (l : List ℕ) → Reads f hs l → (H : List Head) → length H ≤ length hs → sets l 0 (map f H) ≡ over (length (sets hs 0 H)) (map f (sets hs 0 H)) l
 stored f hs l r H i =
     let m : length (map f H) ≡ length H = length-map H f in
@@ -103,7 +79,7 @@ stored f hs l r H i =
     let c : map f H ++ drop (length H) l ≡ (map f H ++ map f (drop (length H) hs)) ++ drop (length hs) l = rw (append-assoc, r .rest (length H) i) in
     a ∙ c ∙ rw (length-sets hs 0 H, b, map-append)
 
-module _ (n : ℕ) (t : List ℤ) (ss es : List ℕ) (d : Due) (is : d ≡ dueOf n t (shorter (length ss) (length es))) where
+module _ (n : ℕ) (t : List ℤ) (ss es : List ℕ) (d : Due) (is : d ≡ dueOf n t (min (length ss) (length es))) where
   abbrev hs : List Head
   hs = paired ss es
 
@@ -118,16 +94,16 @@ module _ (n : ℕ) (t : List ℤ) (ss es : List ℕ) (d : Due) (is : d ≡ dueOf
   room = rw due (due-room n t hs)
 
   pub room-starts : d .heads ≤ length ss
-  room-starts = omega (arith, room, paired-length ss es, shorter-left (length ss) (length es))
+  room-starts = omega (arith, room, paired-length ss es)
 
   pub room-entries : d .heads ≤ length es
-  room-entries = omega (arith, room, paired-length ss es, shorter-right (length ss) (length es))
+  room-entries = omega (arith, room, paired-length ss es)
 
   starts-read : Reads startOf hs ss
-  starts-read = record { short = omega (arith, paired-length ss es, shorter-left (length ss) (length es)); rest = rest-starts ss es }
+  starts-read = record { short = omega (arith, paired-length ss es); rest = rest-starts ss es }
 
   entries-read : Reads entriesOf hs es
-  entries-read = record { short = omega (arith, paired-length ss es, shorter-right (length ss) (length es)); rest = rest-entries ss es }
+  entries-read = record { short = omega (arith, paired-length ss es); rest = rest-entries ss es }
 
   H-room : length H ≤ length hs
   H-room = omega (arith, room, heads-length (d .heads) t 0)

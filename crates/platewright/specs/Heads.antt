@@ -1,8 +1,6 @@
 -- A lent list of heads as C lends it: a list of starts, and one of numbers of entries.
-use mathlib.Core.Bool.{cond}
 use mathlib.Core.List.{List, [], _∷_, map}
 use Prim.Native.Nat.{ℕ}
-use lib.Dec.{ltb}
 use lib.ListN.{length}
 use Rattle.receipt.specs.declared.Head.{Head}
 use Rattle.receipt.specs.Answers.{indexingReceipt}
@@ -22,9 +20,6 @@ unfoldable pub paired : List ℕ → List ℕ → List Head
 paired [] es = []
 paired (s ∷ ss) [] = []
 paired (s ∷ ss) (e ∷ es) = head s e ∷ paired ss es
-
-abbrev pub shorter : ℕ → ℕ → ℕ
-shorter a b = cond (ltb a b) a b
 
 abbrev pub indexed : IndexCall → List ℕ → List ℕ → Answer × (List ℕ × List ℕ)
 indexed c ss es =

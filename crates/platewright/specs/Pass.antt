@@ -10,9 +10,9 @@ use Rattle.table.specs.declared.Pass as table
 use Rattle.table.specs.Pass.{after}
 use Rattle.platewright.specs.declared.Pass.{Pass}
 
-abbrev pub unknownIn : Unknown → Bool
-unknownIn Nowhere = false
-unknownIn (At i k) = true
+abbrev pub foundIn : Unknown → Bool
+foundIn Nowhere = false
+foundIn (At i k) = true
 
 abbrev pub placeIn : Unknown → ℕ
 placeIn Nowhere = 0
@@ -25,7 +25,7 @@ clauseIn (At i k) = k .0
 abbrev pub lentPass : table.Pass → Pass
 lentPass p =
     let u = p .unknown in
-    record { variables = p .variables; place = placeIn u; clause = clauseIn u; clauses = p .clauses; literals = p .literals; unclosed = p .unclosed; unknown = unknownIn u }
+    record { variables = p .variables; place = placeIn u; clause = clauseIn u; clauses = p .clauses; literals = p .literals; unclosed = p .unclosed; unknown = foundIn u }
 
 abbrev pub passOf : Pass → table.Pass
 passOf p =

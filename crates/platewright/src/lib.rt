@@ -1,7 +1,7 @@
 // Every operation, for C (include/platewright.h): each function calls its operation, and flattens the answer.
 ghost use mathlib.Core.List.{map};
 ghost use mathlib.Core.Path.{_≡_};
-ghost use Prim.Native.Nat.{_≤_};
+ghost use Prim.Native.Nat.{_≤_, min};
 ghost use lib.ListN.{length};
 ghost use lib.Seq.{sets};
 ghost use Rattle.index.specs.Index.{headsAt};
@@ -11,7 +11,7 @@ ghost use Rattle.theory.specs.Calls.{settleCall, searchCall, listCall, indexCal
 ghost use Rattle.theory.specs.Table.{check};
 ghost use Rattle.window.specs.Window.{called};
 ghost use Rattle.platewright.specs.Answer.{flat, plain, counted, settled, searched, listed, saved, readIn, added, takenBack};
-ghost use Rattle.platewright.specs.Heads.{startOf, entriesOf, paired, shorter, indexed};
+ghost use Rattle.platewright.specs.Heads.{startOf, entriesOf, paired, indexed};
 ghost use Rattle.platewright.specs.Pass.{lentPass, passOf};
 use literal::ClauseNumber;
 use receipt::Receipt;
@@ -256,7 +256,7 @@ pub extern "C" fn platewright_window(
 // Index --------------------------------------------------------------------------------------------------------------
 
 fn shorter(a: usize, b: usize) -> usize
-    ensures { λ r. ⌜ r ≡ shorter a b ⌝ }
+    ensures { λ r. ⌜ r ≡ min a b ⌝ }
 {
     if a < b { a } else { b }
 }

@@ -1,14 +1,14 @@
 -- `platewright_index` meets its contract: so many heads as are due, in both lists, and the answer flattened.
 use mathlib.Core.Path.{_≡_}
+use Prim.Native.Nat.{min}
 use borrow.Author.Needs.{needs}
 use lib.ListN.{length}
 use Rattle.index.specs.Index.{dueOf}
-use Rattle.platewright.specs.Heads.{shorter}
 use Rattle.platewright.proofs.Heads.{room-starts, room-entries, index-flattened}
 use Rattle.platewright.proofs.platewright_index.Statement.{statement}
 use Rattle.platewright.proofs.platewright_index.Tie as tie
 
-due : (c : tie.After-due-of) → let a = c .before .before .before .before .args in c .due-of .result ≡ dueOf (a .n) (a .table .now) (shorter (length (a .starts .now)) (length (a .entries .now)))
+due : (c : tie.After-due-of) → let a = c .before .before .before .before .args in c .due-of .result ≡ dueOf (a .n) (a .table .now) (min (length (a .starts .now)) (length (a .entries .now)))
 due c = rw (← c .before .shorter .ensures) (c .due-of .ensures)
 
 pub platewright-index-spec : {M : Type 1} → statement M
