@@ -4,23 +4,23 @@ use mathlib.Core.Bool.{cond}
 use mathlib.Core.Logic.{_⊎_, inl, inr, _≢_, ⊎-elim}
 use mathlib.Core.List.{List, [], _∷_}
 use Prim.Native.Nat.{ℕ, zero, suc, _+_, _/_, _≤_, _<_}
-use native.Mathlib.Decide.{decLe, ℕ-discrete as decEq}
-use native.Mathlib.Numerals.{add-one}
+use native.Mathlib.Decide.{ℕ-discrete as decEq}
 use native.Mathlib.Omega.{arith}
-use borrow.Author.Tests.{eq-eqb, ne-eqb, eqb-true}
+use borrow.Author.Tests.{eq-eqb, ne-eqb}
 use lib.Dec.{eqb}
-use lib.ListN.{getD, length, List·getD-eq-default}
+use lib.ListN.{getD, length}
 use Rattle.general.specs.Booleans.{bit}
-use Rattle.general.specs.Bits.{bit-le, bit-true}
 use Rattle.general.specs.Times.{times}
 use Rattle.general.specs.Repeats.{times-cons}
-use Rattle.general.specs.Sums.{sum, times-here, times-other, sum-distinct, length-distinct}
-use Rattle.literal.specs.Literal.{maxVariables, maxLiterals, variables}
-use Rattle.occurrences.specs.Index.{firstAt, width}
+use Rattle.general.specs.Sums.{sum, times-here, times-other, length-distinct}
+use Rattle.literal.specs.Literal.{maxVariables, maxLiterals}
+use Rattle.occurrences.specs.Index.{width}
 use Rattle.tally.specs.Tally.{tallyOf, valueIn, linkIn}
 use Rattle.tally.specs.Ring.{Chain, Ring}
 use Rattle.tally.proofs.Rings.{first-once}
+use Rattle.tally.proofs.Stretches.{ring-class, class-ring, ring-stretch}
 use Rattle.gather.specs.Gathering.{AtRoot, WideIn, Written}
+use Rattle.gather.proofs.Placed.{distinct-width}
 
 -- how many links lead from p to the last one before r
 unfoldable pub dist : List ℕ → ℕ → ℕ → ℕ → ℕ
@@ -46,30 +46,23 @@ module _ {ix st : List ℕ} {r : ℕ} (a : AtRoot ix st r) where
 
   pub class-once : (q : ℕ) → times q (r ∷ others) ≤ 1
   unfolding others
-  class-once q = omega (arith, ring .arc .members q, bit-le (eqb (valueIn st q / 2) r))
+  class-once = ring-stretch (a .exact .long-values) (a .opened) ring .once
 
   pub of-class : (q : ℕ) → 0 < times q (r ∷ others) → valueIn st q / 2 ≡ r
   unfolding others
-  of-class q h = eqb-true (valueIn st q / 2) r (bit-true (eqb (valueIn st q / 2) r) (omega (arith, ring .arc .members q, bit-le (eqb (valueIn st q / 2) r))))
+  of-class = ring-class (a .exact .long-values) (a .opened) ring
 
   pub in-class : (q : ℕ) → valueIn st q / 2 ≡ r → 0 < times q (r ∷ others)
   unfolding others
-  in-class q e = omega (arith, ring .arc .members q, ap bit (eq-eqb (valueIn st q / 2) r e))
+  in-class = class-ring (a .exact .long-values) (a .opened) ring
 
   pub class-inside : (q : ℕ) → 0 < times q (r ∷ others) → q ≤ maxVariables
-  class-inside q h = elim (decLe q maxVariables) [
-    | yes b ↦ b
-    | no b ↦ absurd (let z : valueIn st q ≡ 0 = List·getD-eq-default (tallyOf st .values) 0 (omega (arith, a .exact .long-values)) in omega (arith, of-class q h, a .opened))
-  ]
+  unfolding others
+  class-inside = ring-stretch (a .exact .long-values) (a .opened) ring .inside
 
 -- a class has no more occurrences than there are
 class-width : {ix st : List ℕ} {r : ℕ} (a : AtRoot ix st r) → sum (width ix) (r ∷ others a) ≤ maxLiterals
-class-width {ix} {st} {r} a = omega (
-  arith,
-  sum-distinct (width ix) (firstAt ix) (r ∷ others a) variables (λ k h. rw (← add-one k) (omega (arith, a .index .rising k (omega arith)))) (class-once a)
-      (λ q h. omega (arith, class-inside a q h)),
-  a .index .ends variables (omega arith),
-)
+class-width {r = r} a = distinct-width (a .index) (r ∷ others a) (class-once a) (class-inside a)
 
 -- rest and then r are still to be visited; the wide clauses of what else is of the class are done, and there is room for those to come
 pub record Ahead (ix st : List ℕ) (r : ℕ) (Done : ℕ → Type 0) (spent p : ℕ) : Type 0 where

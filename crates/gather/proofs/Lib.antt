@@ -1,4 +1,5 @@
 pub mod Written
+pub mod Placed
 pub mod Ahead
 pub mod Waits
 pub mod Collects

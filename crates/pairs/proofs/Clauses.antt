@@ -12,9 +12,9 @@ use Rattle.literal.proofs.Codes.{var-code}
 use Rattle.theory.specs.Formula.{Clause}
 use Rattle.theory.specs.State.{State, value, standing}
 use Rattle.theory.proofs.Literals.{of-variable}
-use Rattle.theory.proofs.Clauses.{mem-occurs, stand-ind}
+use Rattle.theory.proofs.Clauses.{stand-ind}
 use Rattle.theory.proofs.Closed.{NoFalse, open-of, not-true-of}
-use Rattle.theory.proofs.Counts.{mentions, Distinct, Wide, mentions-occurs}
+use Rattle.theory.proofs.Counts.{mentions, Distinct, Wide, not-both}
 
 -- what stands of a clause is its first literal or of the rest
 pub standing-cases : (s : State) (l : Literal) (c : Clause) (y : Literal) → List·Memᴰ y (standing s (l ∷ c)) → (y ≡ value s l) ⊎ List·Memᴰ y (standing s c)
@@ -43,10 +43,6 @@ pub code-high : (y : Literal) → 0 < var y → 1 < codeOf y
 code-high y h = omega (arith, var-code y)
 
 module _ {d : Clause} (k : Distinct d) where
-  -- a literal and its opposite do not both stand
-  pub not-both : (y : Literal) → 0 < var y → List·Memᴰ y d → List·Memᴰ (opposite y) d → ⊥
-  not-both y o m n = omega (arith, k (var y) o, mentions-occurs y d, mem-occurs d y m, mem-occurs d (opposite y) n)
-
   -- of a variable one literal stands
   pub distinct-same : (y z : Literal) → 0 < var y → List·Memᴰ y d → List·Memᴰ z d → var y ≡ var z → y ≡ z
-  distinct-same y z o m n e = ⊎-elim (λ q. q) (λ (q : y ≡ opposite z). absurd (not-both z (omega arith) n (rw q at m))) (of-variable y z e)
+  distinct-same y z o m n e = ⊎-elim (λ q. q) (λ (q : y ≡ opposite z). absurd (not-both k z (omega arith) n (rw q at m))) (of-variable y z e)

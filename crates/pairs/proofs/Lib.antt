@@ -5,3 +5,4 @@ pub mod Reading
 pub mod Matched
 pub mod Earlier
 pub mod Pairing
+pub mod Passes

@@ -17,7 +17,7 @@ use Rattle.theory.proofs.Clauses.{standing-mem}
 use Rattle.theory.proofs.Closed.{NoFalse}
 use Rattle.theory.proofs.Ties.{ties-higher, ties-opposite}
 use Rattle.theory.proofs.Asks.{standing-no-false}
-use Rattle.theory.proofs.Counts.{Distinct, Wide}
+use Rattle.theory.proofs.Counts.{Distinct, Wide, not-both}
 use Rattle.theory.proofs.Pairs.{Meets, asks-common, asks-crossed}
 use Rattle.occurrences.specs.Index.{Indexed, clauseCount, clauseOf, formulaOf}
 use Rattle.occurrences.proofs.Formulas.{index-before}
@@ -28,7 +28,7 @@ use Rattle.gather.proofs.Written.{known, stands-for}
 use Rattle.pairs.specs.Meeting.{Marked, Like, Across, MetBy}
 use Rattle.pairs.specs.Pairing.{Falling, Tying}
 use Rattle.pairs.specs.declared.Met.the-variants.{Apart, Common, Crossed}
-use Rattle.pairs.proofs.Clauses.{wide-open, code-high, not-both}
+use Rattle.pairs.proofs.Clauses.{wide-open, code-high}
 
 -- clauses as they stand --------------------------------------------------------------------------------------------
 
@@ -106,7 +106,7 @@ module _ (ix st : List ℕ) (index : Indexed ix) (classes : Classes (tallyOf st 
 
   module _ (g h : ℕ) (ig : g < clauseCount ix) (ih : h < clauseCount ix) (distinct : Distinct (standing (stateIn st) (clauseOf ix h))) where
     -- two clauses that meet are two, in one order or the other
-    before : {a b : Literal} → Meets Wide (standing (stateIn st) (clauseOf ix g)) (standing (stateIn st) (clauseOf ix h)) a b →
+    pub before : {a b : Literal} → Meets Wide (standing (stateIn st) (clauseOf ix g)) (standing (stateIn st) (clauseOf ix h)) a b →
         Before (clauseOf ix g) (clauseOf ix h) (formulaOf ix) ⊎ Before (clauseOf ix h) (clauseOf ix g) (formulaOf ix)
     before {a} {b} m = elim (decLt g h) [
       | yes l ↦ inl (index-before ix g h l ih)

@@ -2,38 +2,25 @@
 use mathlib.Core.Path.{_≡_, refl, ap, sym, subst, _∙_}
 use mathlib.Core.Logic.{inr, _≢_}
 use mathlib.Core.List.{List, List·Memᴰ}
-use Prim.Native.Nat.{ℕ, zero, suc, _+_, _*_, _%_, _≤_, _<_}
+use Prim.Native.Nat.{ℕ, _+_, _*_, _%_, _≤_, _<_}
 use native.Mathlib.Decide.{decLt, ℕ-discrete as decEq}
 use native.Mathlib.Omega.{arith}
-use borrow.Author.Tests.{ne-eqb}
 use lib.ListN.{getD, set, length, length-take, length-drop}
 use lib.Seq.{getD-set-same, getD-set-other}
-use Rattle.general.specs.Booleans.{bit}
-use Rattle.general.specs.Lists.{from}
-use Rattle.general.specs.Times.{times}
 use Rattle.literal.specs.declared.Literal.{Literal}
 use Rattle.literal.specs.declared.Literal.the-variants.{Pos, Neg}
 use Rattle.literal.specs.Literal.{var, opposite, literalAt, maxVariables}
 use Rattle.literal.proofs.Codes.{literalAt-codeOf}
 use Rattle.theory.specs.State.{initial}
-use Rattle.theory.proofs.Clauses.{mem-occurs}
 use Rattle.theory.proofs.PairsBut.{PairsBut}
-use Rattle.occurrences.specs.Index.{Indexed, clauseCount, clauseOf, formulaOf, firstAt, occurrenceAt, occurrences, width}
+use Rattle.occurrences.specs.Index.{Indexed, clauseCount, clauseOf, formulaOf, firstAt, occurrenceAt}
 use Rattle.occurrences.proofs.Formulas.{before-index}
 use Rattle.general.specs.Lists.{before-left}
 use Rattle.notes.specs.Notes.{Notes, notesOf, withRoot, withRootsEnd, Whole, maxRoots}
+use Rattle.gather.proofs.Placed.{literal-placed}
 use Rattle.engine.proofs.Along.{within-indexed}
 use Rattle.start.specs.Signs.{Signed, BothSigns, ListedBelow, Listing}
 use Rattle.start.proofs.Initial.{standing-initial}
-
--- an element that stands in a list made from a function of the index
-pub times-from : (f : ℕ → ℕ) (x k n : ℕ) → 0 < times x (from f k n) → (j : ℕ) × (k ≤ j) × (j < k + n) × (f j ≡ x)
-unfolding times from
-times-from f x k zero h = absurd (omega arith)
-times-from f x k (suc n) h = elim (decEq (f k) x) [
-  | yes e ↦ (k, omega arith, omega arith, e)
-  | no e ↦ let r = times-from f x (suc k) n (omega (arith, ap bit (ne-eqb (f k) x e))) in (r .0, omega (arith, r .1), omega (arith, r .2), r .3)
-]
 
 -- two occurrences of different signs, and none
 module _ (ix : List ℕ) (p : ℕ) where
@@ -50,10 +37,7 @@ module _ (ix : List ℕ) (p : ℕ) where
 module _ {ix : List ℕ} (index : Indexed ix) where
   -- a literal that is written occurs with its sign
   written-signed : (p g k : ℕ) → p ≤ maxVariables → g < clauseCount ix → k < 2 → List·Memᴰ (literalAt (2 * p + k)) (clauseOf ix g) → Signed ix p k
-  written-signed p g k h i b m =
-      let o : 0 < times (2 * g + k) (occurrences ix p) = omega (arith, index .each p g k h i b, mem-occurs (clauseOf ix g) (literalAt (2 * p + k)) m) in
-      let j = times-from (occurrenceAt ix) (2 * g + k) (firstAt ix p) (width ix p) o in
-      (j .0, j .1, omega (arith, j .2, index .rising p h), omega (arith, j .3))
+  written-signed p g k h i b m = let j = literal-placed index p g k h i b m in (j .0, j .1, j .2, omega (arith, j .3))
 
   signed-plus : (p g : ℕ) → p ≤ maxVariables → g < clauseCount ix → List·Memᴰ (Pos p) (clauseOf ix g) → Signed ix p 0
   signed-plus p g h i m = let e : 2 * p + 0 ≡ 2 * p = omega arith in written-signed p g 0 h i (omega arith) (rw (e, literalAt-codeOf (Pos p)) m)

@@ -3,4 +3,7 @@ pub mod Values
 pub mod Standing
 pub mod Rings
 pub mod Turned
+pub mod Stretches
+pub mod Entries
+pub mod Walks
 pub mod Loads

@@ -16,6 +16,7 @@ use Rattle.theory.proofs.Asks.{Dies, Rests, standing-no-false}
 use Rattle.theory.proofs.Propagation.{Stable, Ended, Ends, Steps, steps-well, steps-refine, steps-coarsest, any-order-rest, any-order-dead}
 use Rattle.theory.proofs.Pairs.{Live, NoPair, meets-as, meets-no-pair}
 use Rattle.theory.proofs.PairsBut.{PairsBut}
+use Rattle.theory.proofs.Paired.{Paired, paired-none}
 use Rattle.theory.proofs.ByCount.{ByCount, counted-closed, counted-quiet, live-counted}
 use Rattle.theory.proofs.Counts.{Wide}
 use Rattle.theory.proofs.Splits.{settle-ends}
@@ -75,6 +76,10 @@ module _ {n : ℕ} {f : Formula} (within : Within n f) {s u : State} (w : WellFo
 
   pub settled-at : ((c : Clause) → List·Memᴰ c f → ByCount (standing u c)) → PairsBut (λ p. ⊥) f u → settle n f s ≡ rest u
   settled-at k p = settled-rests (counted-rests k p)
+
+  -- the same by an empty relation of clauses
+  pub settled-paired : ((c : Clause) → List·Memᴰ c f → ByCount (standing u c)) → Paired (λ g h. ⊥) f u → settle n f s ≡ rest u
+  settled-paired k p = settled-at k (paired-none p)
 
   pub settled-dead : Dies f u → settle n f s ≡ dead
   settled-dead k = any-order-dead within r w (suc n) (omega (arith, opens-bound s n)) k

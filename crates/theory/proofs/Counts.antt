@@ -16,7 +16,7 @@ use Rattle.theory.specs.Formula.{Clause}
 use Rattle.theory.specs.State.{State, value, stand, standing}
 use Rattle.theory.specs.Rules.{occurs}
 use Rattle.theory.proofs.Literals.{var-opposite, opposite-ne, same-refl, same-ne, literal-cases, relation}
-use Rattle.theory.proofs.Clauses.{stand-ind}
+use Rattle.theory.proofs.Clauses.{mem-occurs, stand-ind}
 use Rattle.theory.proofs.Closed.{NoFalse, open-of}
 
 -- how many open literals stand in a clause, and how many of variable p
@@ -66,6 +66,10 @@ mentions-occurs x d = omega (arith, occurs-count x d, occurs-count (opposite x) 
         (λ (h : var l ≢ var x). rw (ne-eqb (var l) (var x) h, same-ne l x (λ q. h (ap var q)), same-ne l (opposite x) (λ q. h (ap var q ∙ var-opposite x))))
         w)
         (relation l x)
+
+-- a literal and its opposite do not both stand where no variable does twice
+pub not-both : {d : Clause} → Distinct d → (y : Literal) → 0 < var y → List·Memᴰ y d → List·Memᴰ (opposite y) d → ⊥
+not-both {d} k y o m n = omega (arith, k (var y) o, mentions-occurs y d, mem-occurs d y m, mem-occurs d (opposite y) n)
 
 -- what stands is true or open
 pub length-counted : (d : Clause) → NoFalse d → length d ≡ occurs TRUE d + openCount d

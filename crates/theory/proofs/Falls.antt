@@ -15,6 +15,7 @@ use Rattle.theory.proofs.Stepped.{assign-turned}
 use Rattle.theory.proofs.Counts.{openCount, mentions, Wide}
 use Rattle.theory.proofs.Recounts.{opens-step, wide-before, mentions-kept, mentions-gone}
 use Rattle.theory.proofs.PairsBut.{PairsBut, pairs-decided}
+use Rattle.theory.proofs.Paired.{Adds, adds-none, adds-still, adds-decided}
 use Rattle.theory.proofs.DistinctBut.{DistinctBut, distinct-decided}
 
 pub steps-trans : {f : Formula} {s u v : State} {m k : ℕ} → Steps f s u m → Steps f u v k → Steps f s v (m + k)
@@ -79,6 +80,10 @@ module _ {f : Formula} where
 
     pub falls-pairs : {L : ℕ → Type 0} → PairsBut L f s → PairsBut L f u
     falls-pairs {L} = falls-ind (λ s u. PairsBut L f s → PairsBut L f u) (λ s k. k) (λ s u x o h k. h (pairs-decided x FALSE o refl k)) r
+
+    -- and no two begin to meet
+    pub falls-adds : Adds (λ g h. ⊥) f s u
+    falls-adds = falls-ind (Adds (λ g h. ⊥) f) adds-none (λ s u x o h. adds-still (adds-decided s x FALSE o refl) h) r
 
 module _ {n : ℕ} {f : Formula} (within : Within n f) where
   false-well : {s : State} {x : Literal} → WellFormed n s → AsksFalse f s x → WellFormed n (assign x FALSE s)

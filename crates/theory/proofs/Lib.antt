@@ -12,7 +12,9 @@ pub mod Ties
 pub mod Asks
 pub mod Pairs
 pub mod PairsBut
+pub mod Paired
 pub mod Falls
+pub mod Looks
 pub mod Forced
 pub mod Propagation
 pub mod Solutions

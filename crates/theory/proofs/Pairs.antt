@@ -75,6 +75,14 @@ module _ {B : Clause → Type 0} where
       apart = m .apart;
     }
 
+-- rule 7, whichever of its clauses comes first
+pub asks-false : {f : Formula} (s : State) (g h : Clause) → Before g h f ⊎ Before h g f → {x y : Literal} → List·Memᴰ x (standing s g) → List·Memᴰ x (standing s h) →
+    List·Memᴰ y (standing s g) → List·Memᴰ (opposite y) (standing s h) → 0 < var x → var x ≢ var y → Asks f s x FALSE
+asks-false s g h b {y = y} xg xh yg yh o d = ⊎-elim
+    (λ i. by-two g h i (common y xg xh yg yh o d))
+    (λ i. by-two h g i (common (opposite y) xh xg yh (rw (opposite-opposite y) yg) o (λ e. d (e ∙ var-opposite y))))
+    b
+
 -- the step of such a pair, whichever of its clauses comes first
 module _ {B : Clause → Type 0} (bare : (c : Clause) → B c → occurs TRUE c ≡ 0) {f : Formula} (s : State) (g h : Clause) (b : Before g h f ⊎ Before h g f) {x y : Literal}
     (m : Meets B (standing s g) (standing s h) x y) where
@@ -82,10 +90,7 @@ module _ {B : Clause → Type 0} (bare : (c : Clause) → B c → occurs TRUE c 
   opened = meets-open bare (standing-no-false s g) m
 
   pub asks-common : List·Memᴰ x (standing s h) → Asks f s x FALSE
-  asks-common k = ⊎-elim
-      (λ i. by-two g h i (common y (m .left) k (m .crossing) (m .crossed-by) (opened .0) (m .apart)))
-      (λ i. by-two h g i (common (opposite y) k (m .left) (m .crossed-by) (rw (opposite-opposite y) (m .crossing)) (opened .0) (λ e. m .apart (e ∙ var-opposite y))))
-      b
+  asks-common k = asks-false s g h b (m .left) k (m .crossing) (m .crossed-by) (opened .0) (m .apart)
 
   pub asks-crossed : {z t : Literal} → List·Memᴰ (opposite x) (standing s h) → Ties x y z t → Asks f s z t
   asks-crossed k i = ⊎-elim

@@ -15,9 +15,10 @@ use Rattle.literal.proofs.Codes.{var-at}
 use Rattle.tally.specs.Tally.{Tally}
 use Rattle.tally.specs.Ring.{Ring, Classes}
 use Rattle.tally.specs.Counts.{load, roots}
+use Rattle.tally.proofs.Stretches.{chain-move}
 use Rattle.tally.proofs.Turned.{moved-over, stays, class-kept, classes-turned, roots-turned}
 use Rattle.tie.specs.Turning.{Turnable, Turned, Joined, swapped, withSwapped}
-use Rattle.tie.proofs.Swaps.{chain-move, swapped-other, swap-arc}
+use Rattle.tie.proofs.Swaps.{swapped-other, swap-arc}
 
 module _ {tally after : Tally} {x t : ℕ} (d : Turnable tally x t) (u : Turned tally x t after) where
   abbrev old : ℕ → ℕ
@@ -108,6 +109,7 @@ module _ {tally after : Tally} {x t : ℕ} (d : Turnable tally x t) (u : Turned 
     state = u .state;
     long = u .long;
     linked = simp length-set (d .linked);
+    links = refl;
     counts = u .counts;
     classes = joined-classes;
     loads = joined-load;

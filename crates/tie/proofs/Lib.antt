@@ -2,6 +2,7 @@ pub mod Codes
 pub mod Swaps
 pub mod Turns
 pub mod Joins
+pub mod Between
 pub mod Listings
 pub mod Doubles
 pub mod Signing

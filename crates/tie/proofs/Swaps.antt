@@ -1,7 +1,7 @@
 -- Two rings become one where two links are swapped.
-use mathlib.Core.Path.{_≡_, refl, ap, sym, _∙_}
+use mathlib.Core.Path.{_≡_, ap, sym, _∙_}
 use mathlib.Core.List.{List, [], _∷_, _++_}
-use Prim.Native.Nat.{ℕ, _+_, _/_, _≤_, _<_}
+use Prim.Native.Nat.{ℕ, _+_, _/_, _<_}
 use native.Mathlib.Omega.{arith}
 use borrow.Author.Tests.{eq-eqb}
 use lib.Dec.{eqb}
@@ -13,15 +13,8 @@ use Rattle.general.specs.Times.{times}
 use Rattle.general.specs.Repeats.{times-cons, times-append}
 use Rattle.literal.specs.Literal.{variables}
 use Rattle.tally.specs.Ring.{Chain, Arc}
+use Rattle.tally.proofs.Stretches.{chain-move}
 use Rattle.tie.specs.Turning.{swapped}
-
--- the first link may be another's
-pub chain-move : (link other : List ℕ) (p q : ℕ) (l : List ℕ) (e : ℕ) → getD other q 0 ≡ getD link p 0 → ((z : ℕ) → 1 ≤ times z l → getD other z 0 ≡ getD link z 0) →
-    Chain link p l e → Chain other q l e
-unfolding Chain times
-chain-move link other p q [] e h f c = h ∙ c
-chain-move link other p q (o ∷ l) e h f c =
-    (h ∙ c .0, chain-move link other o o l e (f o (omega (arith, ap bit (eq-eqb o o refl)))) (λ z b. f z (omega arith)) (c .1))
 
 chain-join : (link : List ℕ) (p : ℕ) (l : List ℕ) (q : ℕ) (m : List ℕ) (e : ℕ) → Chain link p l q → Chain link q m e → Chain link p (l ++ q ∷ m) e
 unfolding Chain

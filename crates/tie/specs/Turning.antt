@@ -28,19 +28,20 @@ pub record Turned (tally : Tally) (x t : ℕ) (after : Tally) : Type 0 where
   pub links : after .links ≡ tally .links
   pub counts : after .counts ≡ tally .counts
 
+-- two links swapped
+abbrev pub swapped : List ℕ → ℕ → ℕ → List ℕ
+swapped link r q = set (set link r (getD link q 0)) q (getD link r 0)
+
 -- and the two rings are one: what is open stays so, and one root fewer is
 pub record Joined (tally : Tally) (x t : ℕ) (after : Tally) : Type 0 where
   pub state : stateOf (after .values) ≡ assign (literalAt x) (literalAt t) (stateOf (tally .values))
   pub long : length (after .values) ≡ variables
   pub linked : length (after .links) ≡ variables
+  pub links : after .links ≡ swapped (tally .links) (t / 2) (x / 2)
   pub counts : after .counts ≡ tally .counts
   pub classes : Classes (after .values) (after .links)
   pub loads : (w : ℕ → ℕ) (n : ℕ) → load w (after .values) n ≡ load w (tally .values) n
   pub fewer : roots (after .values) maxVariables + 1 ≡ roots (tally .values) maxVariables
-
--- two links swapped
-abbrev pub swapped : List ℕ → ℕ → ℕ → List ℕ
-swapped link r q = set (set link r (getD link q 0)) q (getD link r 0)
 
 abbrev pub withSwapped : ℕ → ℕ → Tally → Tally
 withSwapped r q t = record { values = t .values; links = swapped (t .links) r q; counts = t .counts }
