@@ -103,16 +103,26 @@ mem-standing s (l ∷ c) k m h = ⊎-elim
     (λ n. stand-keeps (value s k) (value s l) (standing s c) (mem-standing s c k n h))
     (List·Memᴰ·cases-cons m)
 
--- what stands in s stands in a refinement as the clause itself does
-pub standing-refines : {s u : State} → Refines s u → Based u → (c : Clause) → standing u (standing s c) ≡ standing u c
+-- where v says of what s makes of each literal what u says of the literal, what stands in s stands in v as the clause itself does in u
+pub standing-again : {s u v : State} → ((l : Literal) → value v (value s l) ≡ value u l) → Based v → (c : Clause) → standing v (standing s c) ≡ standing u c
 unfolding standing
-standing-refines r b [] = refl
-standing-refines {s} {u} r b (k ∷ c) = sym (once (value s k)) ∙ rw (refines-value r k, standing-refines r b c)
+standing-again e b [] = refl
+standing-again {s} {u} {v} e b (k ∷ c) = sym (once (value s k)) ∙ rw (e k, standing-again e b c)
   where
-    once : (v : Literal) → stand (value u v) (standing u (standing s c)) ≡ standing u (stand v (standing s c))
-    once = stand-ind (λ v d. stand (value u v) (standing u (standing s c)) ≡ standing u d) (standing s c)
+    once : (l : Literal) → stand (value v l) (standing v (standing s c)) ≡ standing v (stand l (standing s c))
+    once = stand-ind (λ l d. stand (value v l) (standing v (standing s c)) ≡ standing v d) (standing s c)
         (rw (base-false b))
-        (λ v h. refl)
+        (λ l h. refl)
+
+-- so in a refinement
+pub standing-refines : {s u : State} → Refines s u → Based u → (c : Clause) → standing u (standing s c) ≡ standing u c
+standing-refines r b c = standing-again (refines-value r) b c
+
+-- states that say the same of a clause's literals
+pub standing-same : (s u : State) (c : Clause) → ((l : Literal) → List·Memᴰ l c → value s l ≡ value u l) → standing s c ≡ standing u c
+unfolding standing
+standing-same s u [] h = refl
+standing-same s u (l ∷ c) h = rw (h l (List·Memᴰ·head refl), standing-same s u c (λ k m. h k (List·Memᴰ·tail m)))
 
 -- a literal of the clause goes with its value, and two literals of one value count twice
 module _ (u : State) (v : Literal) (h : v ≢ FALSE) where

@@ -41,6 +41,8 @@ pub mod Reasons
 pub mod SplitReasons
 pub mod AtRest
 pub mod Guard
+pub mod Alike
+pub mod Memo
 pub mod Tables
 pub mod Mentions
 pub mod Demands

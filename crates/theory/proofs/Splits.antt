@@ -43,7 +43,7 @@ pub record Beside (d : Clause) (x : Literal) : Type 0 where
   pub third-apart : third ≢ x
   pub apart : third ≢ second
 
-beside : (d : Clause) (x : Literal) → 3 ≤ length d → ((y : Literal) → occurs y d ≤ 1) → Beside d x
+pub beside : (d : Clause) (x : Literal) → 3 ≤ length d → ((y : Literal) → occurs y d ≤ 1) → Beside d x
 beside [] x h once = absurd (omega arith)
 beside (a ∷ []) x h once = absurd (omega arith)
 beside (a ∷ b ∷ []) x h once = absurd (omega arith)
@@ -72,7 +72,7 @@ beside (a ∷ b ∷ c ∷ d) x h once = ⊎-elim
     bc e = omega (arith, once b, occurs-tail b a (b ∷ c ∷ d), occurs-here b (c ∷ d), mem-occurs (c ∷ d) b (List·Memᴰ·head (sym e)))
 
 -- literals of a live clause that differ are of different variables
-alive-differ : {d : Clause} → Alive d → (x y : Literal) → List·Memᴰ x d → List·Memᴰ y d → y ≢ x → var y ≢ var x
+pub alive-differ : {d : Clause} → Alive d → (x y : Literal) → List·Memᴰ x d → List·Memᴰ y d → y ≢ x → var y ≢ var x
 alive-differ {d} a x y mx my h e = ⊎-elim h
     (λ (q : y ≡ opposite x). omega (arith, a .apart x mx, rw q at (mem-occurs d y my)))
     (of-variable y x e)

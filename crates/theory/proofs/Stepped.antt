@@ -1,16 +1,16 @@
 -- What stands in a clause after one step x := t, by what stood in it before.
 use mathlib.Core.Path.{_≡_, refl, ap, sym, _∙_, fun-ext}
 use mathlib.Core.Logic.{_≢_, ⊎-elim}
-use mathlib.Core.List.{[], _∷_, List·Memᴰ, List·Memᴰ·head, List·Memᴰ·tail}
+use mathlib.Core.List.{List·Memᴰ}
 use Prim.Native.Nat.{_<_}
 use native.Mathlib.Omega.{arith}
 use Rattle.literal.specs.declared.Literal.{Literal}
 use Rattle.literal.specs.Literal.{FALSE, var, opposite}
 use Rattle.theory.specs.Formula.{Clause}
-use Rattle.theory.specs.State.{State, value, replace, assign, stand, standing}
+use Rattle.theory.specs.State.{State, value, replace, assign, standing}
 use Rattle.theory.proofs.Literals.{opposite-opposite, var-opposite, of-variable}
 use Rattle.theory.proofs.States.{replace-same, replace-opposite-same, replace-other, replace-ind, replace-opposite, value-assign}
-use Rattle.theory.proofs.Clauses.{standing-mem, mem-standing}
+use Rattle.theory.proofs.Clauses.{standing-mem, mem-standing, standing-same}
 
 -- to make x become t is to make its opposite the opposite of t
 pub assign-turned : (s : State) (x t : Literal) → assign (opposite x) (opposite t) s ≡ assign x t s
@@ -33,11 +33,7 @@ replace-constant x t o l e = replace-other x t l (λ q. omega arith)
 module _ (s : State) (x t : Literal) where
   -- a clause that holds no variable of x's class stands the same
   pub stands-same : (c : Clause) → ((l : Literal) → List·Memᴰ l c → var (value s l) ≢ var x) → standing (assign x t s) c ≡ standing s c
-  unfolding standing
-  stands-same [] h = refl
-  stands-same (l ∷ c) h =
-      ap (λ (v : Literal). stand v (standing (assign x t s) c)) (value-assign s x t l ∙ replace-other x t (value s l) (h l (List·Memᴰ·head refl))) ∙
-      ap (stand (value s l)) (stands-same c (λ k m. h k (List·Memᴰ·tail m)))
+  stands-same c h = standing-same (assign x t s) s c (λ l m. value-assign s x t l ∙ replace-other x t (value s l) (h l m))
 
   pub mem-after : (c : Clause) (k : Literal) → List·Memᴰ k (standing s c) → replace x t k ≢ FALSE → List·Memᴰ (replace x t k) (standing (assign x t s) c)
   mem-after c k m h =

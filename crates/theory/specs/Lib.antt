@@ -9,6 +9,7 @@ pub mod Propagation
 pub mod Tree
 pub mod Bound
 pub mod Search
+pub mod Memo
 pub mod Layouts
 pub mod Listing
 pub mod Reasons
