@@ -13,7 +13,7 @@ use Rattle.general.specs.Booleans.{bit}
 use Rattle.general.specs.Times.{times}
 use Rattle.general.specs.Repeats.{times-cons}
 use Rattle.general.specs.Sums.{sum, times-here, times-other, length-distinct}
-use Rattle.literal.specs.Literal.{maxVariables, maxLiterals}
+use Rattle.literal.specs.Literal.{maxVariables, maxLiterals, variables}
 use Rattle.occurrences.specs.Index.{width}
 use Rattle.tally.specs.Tally.{tallyOf, valueIn, linkIn}
 use Rattle.tally.specs.Ring.{Chain, Ring}
