@@ -99,12 +99,12 @@ module _ {ix st wk : List ℕ} {x : ℕ} (d : Decidable ix st wk x) (st′ wk′
     classes = rw (t .adding .links) classes;
     whole = whole;
     todo-room = omega (arith, t .paid, s .todo-room);
-    roots-room = omega (arith, t .adding .rootsEnd, s .roots-room, fewer);
+    blocks-room = omega (arith, t .adding .blocksEnd, s .blocks-room, fewer);
     todo-inside = λ i h. elim (decLt i (notesOf wk .todoEnd)) [
       | yes b ↦ rw (t .adding .kept i b) (s .todo-inside i b)
       | no b ↦ t .adding .fresh i (omega arith) h
     ];
-    roots-inside = λ i h. rw (t .adding .roots) (s .roots-inside i (omega (arith, t .adding .rootsEnd)));
+    roots-inside = λ i h. rw (t .adding .roots) (s .roots-inside i (omega (arith, t .adding .blocksEnd)));
   }
 
   moved : Moved ix st wk st′ wk′
@@ -115,7 +115,7 @@ module _ {ix st wk : List ℕ} {x : ℕ} (d : Decidable ix st wk x) (st′ wk′
       fewer = omega (arith, fewer);
       links = t .adding .links;
       roots = t .adding .roots;
-      rootsEnd = t .adding .rootsEnd;
+      blocksEnd = t .adding .blocksEnd;
     };
     gathered = t .adding .gathered;
   }

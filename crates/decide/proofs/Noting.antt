@@ -26,7 +26,7 @@ adding-none = record {
   won = λ g h a b. absurd (omega arith);
   links = refl;
   roots = refl;
-  rootsEnd = refl;
+  blocksEnd = refl;
   gathered = refl;
 }
 
@@ -56,7 +56,7 @@ module _ {ix : List ℕ} {t : Tally} {n : Notes} {u : Tally} {m : Notes} {v : Ta
     ];
     links = b .links ∙ a .links;
     roots = b .roots ∙ a .roots;
-    rootsEnd = b .rootsEnd ∙ a .rootsEnd;
+    blocksEnd = b .blocksEnd ∙ a .blocksEnd;
     gathered = b .gathered ∙ a .gathered;
   }
 
@@ -71,7 +71,7 @@ adding-valued t p to a = record {
   won = a .won;
   links = a .links;
   roots = a .roots;
-  rootsEnd = a .rootsEnd;
+  blocksEnd = a .blocksEnd;
   gathered = a .gathered;
 }
 
@@ -112,7 +112,7 @@ module _ (ix : List ℕ) (t : Tally) (n : Notes) (o to c : ℕ) (is : c ≡ reco
         ];
     links = refl;
     roots = refl;
-    rootsEnd = refl;
+    blocksEnd = refl;
     gathered = refl;
   }
     where

@@ -34,7 +34,7 @@ pub record Adding (ix : List ℕ) (t : Tally) (n : Notes) (u : Tally) (m : Notes
   pub won : (g : ℕ) → g < clauseCount ix → getD (t .counts) g 0 < oneTrue → oneTrue ≤ getD (u .counts) g 0 → Noted m (n .todoEnd) g
   pub links : u .links ≡ t .links
   pub roots : m .roots ≡ n .roots
-  pub rootsEnd : m .rootsEnd ≡ n .rootsEnd
+  pub blocksEnd : m .blocksEnd ≡ n .blocksEnd
   pub gathered : m .gathered ≡ n .gathered
 
 -- counts are exact again, and each note is paid by an open occurrence

@@ -111,10 +111,10 @@ module _ {ix st₀ st wk : List ℕ} {twos : ℕ} (q : Going ix st₀ st wk twos
       }
 
       pub going-less : weight ix st″ wk″ - next < weight ix st wk - twos
-      going-less = omega (arith, t .less, t .reached, t .grows, q .reached, u .1 .went .noting .grows, u .1 .went .noting .paid, u .1 .went .fewer, u .1 .went .rootsEnd)
+      going-less = omega (arith, t .less, t .reached, t .grows, q .reached, u .1 .went .noting .grows, u .1 .went .noting .paid, u .1 .went .fewer, u .1 .went .blocksEnd)
 
   -- nothing is listed: no rule fits
-  pub going-ends : notesOf wk .todoEnd ≤ twos → notesOf wk .rootsEnd ≡ 0 → Rested ix st₀ st wk
+  pub going-ends : notesOf wk .todoEnd ≤ twos → notesOf wk .blocksEnd ≡ 0 → Rested ix st₀ st wk
   going-ends h z = record {
     steps = q .steps;
     sound = q .ready .sound;

@@ -26,7 +26,7 @@ use Rattle.occurrences.specs.Index.{clauseCount, clauseOf, formulaOf}
 use Rattle.occurrences.proofs.Formulas.{before-index}
 use Rattle.tally.specs.Tally.{tallyOf, stateIn, valueIn, countIn}
 use Rattle.tally.specs.Counts.{roots}
-use Rattle.notes.specs.Notes.{notesOf, Whole, Listed, withRootsEnd}
+use Rattle.notes.specs.Notes.{notesOf, Whole, Listed, withBlocksEnd}
 use Rattle.moves.specs.Sound.{Sound}
 use Rattle.moves.specs.Moving.{Noting, Went, Moved}
 use Rattle.moves.proofs.Dying.{died-fallen}
@@ -62,7 +62,7 @@ module _ {ix st wk : List ℕ} {at next : ℕ} (ready : Ready ix st wk at next) 
 
     pub ready-went : Falls (formulaOf ix) (stateIn st) (stateIn st′) → Went ix st wk st′ wk′ → Ready ix st′ wk′ at next
     ready-went f w = ready-steps (falls-steps f .1) (w .sound) (w .noting) (falls-distinct f (ready .distinct))
-        (pairs-weaken (λ p l. (l .0, omega (arith, l .1, w .rootsEnd), ap (λ (r : List ℕ). getD r (l .0) 0) (w .roots) ∙ l .2)) (falls-pairs f (ready .pairs)))
+        (pairs-weaken (λ p l. (l .0, omega (arith, l .1, w .blocksEnd), ap (λ (r : List ℕ). getD r (l .0) 0) (w .roots) ∙ l .2)) (falls-pairs f (ready .pairs)))
 
     pub ready-units : Falls (formulaOf ix) (stateIn st) (stateIn st′) → Moved ix st wk st′ wk′ → {b : ℕ} → Units ix st′ wk′ b → Ready ix st′ wk′ b next
     ready-units f m u =
@@ -77,8 +77,8 @@ NoneMeet ix st r = (g h : ℕ) → g < h → h < clauseCount ix → 0 < mentions
 
 -- the last one, at index `end`
 pub record Delisted (wk wk′ : List ℕ) (end : ℕ) : Type 0 where
-  pub last : notesOf wk .rootsEnd ≡ end + 1
-  pub is : notesOf wk′ ≡ withRootsEnd end (notesOf wk)
+  pub last : notesOf wk .blocksEnd ≡ end + 1
+  pub is : notesOf wk′ ≡ withBlocksEnd end (notesOf wk)
   pub whole : Whole wk′
 
 module _ {wk wk′ : List ℕ} {end : ℕ} (d : Delisted wk wk′ end) where
@@ -91,14 +91,14 @@ module _ {wk wk′ : List ℕ} {end : ℕ} (d : Delisted wk wk′ end) where
   roots-same : notesOf wk′ .roots ≡ notesOf wk .roots
   roots-same = ap (λ n. n .roots) (d .is)
 
-  pub roots-end : notesOf wk′ .rootsEnd ≡ end
-  roots-end = ap (λ n. n .rootsEnd) (d .is)
+  pub blocks-end : notesOf wk′ .blocksEnd ≡ end
+  blocks-end = ap (λ n. n .blocksEnd) (d .is)
 
   -- every other root stays
   delisted : (p : ℕ) → Listed (notesOf wk) p × (p ≢ getD (notesOf wk .roots) end 0) → Listed (notesOf wk′) p
   delisted p (l, n) = elim (decEq (l .0) end) [
     | yes e ↦ absurd (n (sym (l .2) ∙ ap (λ (i : ℕ). getD (notesOf wk .roots) i 0) e))
-    | no e ↦ (l .0, omega (arith, l .1, roots-end, d .last), ap (λ (r : List ℕ). getD r (l .0) 0) roots-same ∙ l .2)
+    | no e ↦ (l .0, omega (arith, l .1, blocks-end, d .last), ap (λ (r : List ℕ). getD r (l .0) 0) roots-same ∙ l .2)
   ]
 
   module _ {ix st : List ℕ} where
@@ -110,9 +110,9 @@ module _ {wk wk′ : List ℕ} {end : ℕ} (d : Delisted wk wk′ end) where
       classes = s .classes;
       whole = d .whole;
       todo-room = omega (arith, s .todo-room, end-same);
-      roots-room = omega (arith, s .roots-room, roots-end, d .last);
+      blocks-room = omega (arith, s .blocks-room, blocks-end, d .last);
       todo-inside = λ i h. rw (ap (λ (t : List ℕ). getD t i 0) todo-same) (s .todo-inside i (omega (arith, end-same)));
-      roots-inside = λ i h. rw (ap (λ (t : List ℕ). getD t i 0) roots-same) (s .roots-inside i (omega (arith, roots-end, d .last)));
+      roots-inside = λ i h. rw (ap (λ (t : List ℕ). getD t i 0) roots-same) (s .roots-inside i (omega (arith, blocks-end, d .last)));
     }
 
     noting-delisted : Noting ix st wk st wk′
@@ -192,7 +192,7 @@ module _ {ix st wk : List ℕ} {twos : ℕ} (ready : Ready ix st wk (notesOf wk 
     ready = ready-shut d ready (omega arith) before r e h;
     grows = omega (arith, end-same d);
     reached = before;
-    less = omega (arith, end-same d, roots-end d, d .last);
+    less = omega (arith, end-same d, blocks-end d, d .last);
   }
 
   module _ {st′ wk′ : List ℕ} (k : Fallen ix st wk st′ wk′) where
@@ -206,7 +206,7 @@ module _ {ix st wk : List ℕ} {twos : ℕ} (ready : Ready ix st wk (notesOf wk 
       ready = ready-looked d ready-pair (k .went .noting .grows) (omega (arith, k .went .noting .grows)) r (e ∙ sym (ap (λ (l : List ℕ). getD l end 0) (k .went .roots))) none;
       grows = omega (arith, end-same d, k .went .noting .grows);
       reached = before;
-      less = omega (arith, end-same d, roots-end d, d .last, k .went .noting .paid, k .went .fewer, k .went .rootsEnd);
+      less = omega (arith, end-same d, blocks-end d, d .last, k .went .noting .paid, k .went .fewer, k .went .blocksEnd);
     }
 
     -- or asked a tie
@@ -216,7 +216,7 @@ module _ {ix st wk : List ℕ} {twos : ℕ} (ready : Ready ix st wk (notesOf wk 
       ready = ready-tied ready-pair (k .went .noting .grows) (omega (arith, k .went .noting .grows)) t;
       grows = omega (arith, k .went .noting .grows, t .noting .grows);
       reached = before;
-      less = omega (arith, t .listed, t .fewer, t .noting .paid, k .went .noting .paid, k .went .fewer, k .went .rootsEnd);
+      less = omega (arith, t .listed, t .fewer, t .noting .paid, k .went .noting .paid, k .went .fewer, k .went .blocksEnd);
     }
 
   -- a tie was made, or met a dead end
@@ -228,7 +228,7 @@ module _ {ix st wk : List ℕ} {twos : ℕ} (ready : Ready ix st wk (notesOf wk 
   turned-by-pair k st″ wk″ DeadEnd d = (died-fallen (k .falls) (d .0), d .1)
   turned-by-pair k st″ wk″ (From next) (e, t) = rw e (turned-pair k t)
 
-pub left-last : (wk : List ℕ) (twos n : ℕ) → notesOf wk .todoEnd ≤ twos → n ≡ notesOf wk .rootsEnd → Left wk twos (ltb 0 n)
+pub left-last : (wk : List ℕ) (twos n : ℕ) → notesOf wk .todoEnd ≤ twos → n ≡ notesOf wk .blocksEnd → Left wk twos (ltb 0 n)
 left-last wk twos n h e = go (ltb 0 n) refl
   where
     go : (b : Bool) → ltb 0 n ≡ b → Left wk twos b

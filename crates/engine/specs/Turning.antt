@@ -53,12 +53,12 @@ TieNext ix st wk twos st′ wk′ (From next) = (next ≡ twos) × Tied ix st wk
 
 -- what falls with each turn: listed roots, open roots (a tie lists one), notes and open occurrences (each pays a note)
 abbrev pub weight : List ℕ → List ℕ → List ℕ → ℕ
-weight ix st wk = notesOf wk .rootsEnd + 2 * roots (tallyOf st .values) maxVariables + (notesOf wk .todoEnd + room ix (tallyOf st .values))
+weight ix st wk = notesOf wk .blocksEnd + 2 * roots (tallyOf st .values) maxVariables + (notesOf wk .todoEnd + room ix (tallyOf st .values))
 
 -- a clause or a root is listed
 abbrev pub Left : List ℕ → ℕ → Bool → Type 0
-Left wk twos true = (twos < notesOf wk .todoEnd) ⊎ (0 < notesOf wk .rootsEnd)
-Left wk twos false = (notesOf wk .todoEnd ≤ twos) × (notesOf wk .rootsEnd ≡ 0)
+Left wk twos true = (twos < notesOf wk .todoEnd) ⊎ (0 < notesOf wk .blocksEnd)
+Left wk twos false = (notesOf wk .todoEnd ≤ twos) × (notesOf wk .blocksEnd ≡ 0)
 
 -- the next clause is at `next`
 pub record Turned (ix st wk : List ℕ) (twos : ℕ) (st′ wk′ : List ℕ) (next : ℕ) : Type 0 where

@@ -137,19 +137,19 @@ fn look_at_two(index: &Index, state: &mut Tally, work: &mut Notes, twos: usize) 
 fn look_at_pairs(index: &Index, state: &mut Tally, work: &mut Notes, twos: usize) -> Next
     requires { ⌜ Ready (now index) (now state) (now work) (notesOf (now work) .todoEnd) twos ⌝ }
     requires { ⌜ twos ≤ notesOf (now work) .todoEnd ⌝ }
-    requires { ⌜ 0 < notesOf (now work) .rootsEnd ⌝ }
+    requires { ⌜ 0 < notesOf (now work) .blocksEnd ⌝ }
     ensures { λ next. ⌜ TurnOf (now (index .entry)) (now (state .entry)) (now (work .entry)) twos (now (state .exit)) (now (work .exit)) next ⌝ }
 {
-    let end = notes::roots_end(work) - 1;
+    let end = notes::blocks_end(work) - 1;
     let r = notes::root_at(work, end);
     if tally::value_of(state, r as usize) != 2 * r {
-        notes::set_roots_end(work, end);
+        notes::set_blocks_end(work, end);
         return Next::From(twos);
     }
     let found = pairs::pairs_at(index, state, work, r);
     match found {
         Found::Nothing => {
-            notes::set_roots_end(work, end);
+            notes::set_blocks_end(work, end);
             Next::From(twos)
         }
         Found::Dead => Next::DeadEnd,
@@ -164,7 +164,7 @@ fn is_left(work: &Notes, twos: usize) -> bool
     if twos < notes::todo_end(work) {
         return true;
     }
-    0 < notes::roots_end(work)
+    0 < notes::blocks_end(work)
 }
 
 // One look, at a clause with two open literals before the pairs of a root.

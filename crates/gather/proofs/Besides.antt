@@ -23,9 +23,9 @@ module _ {ix st wk : List ℕ} (s : Sound ix st wk) where
       classes = s .classes;
       whole = b .whole;
       todo-room = rw (b .todoEnd) (s .todo-room);
-      roots-room = rw (b .rootsEnd) (s .roots-room);
+      blocks-room = rw (b .blocksEnd) (s .blocks-room);
       todo-inside = rw (b .todoEnd, b .todo) (s .todo-inside);
-      roots-inside = rw (b .rootsEnd, b .roots) (s .roots-inside);
+      roots-inside = rw (b .blocksEnd, b .roots) (s .roots-inside);
     }
 
     -- no step was made
@@ -42,6 +42,6 @@ module _ {ix st wk : List ℕ} (s : Sound ix st wk) where
       };
       links = refl;
       roots = b .roots;
-      rootsEnd = b .rootsEnd;
+      blocksEnd = b .blocksEnd;
       fewer = omega arith;
     }

@@ -36,11 +36,11 @@ module _ (wk wk′ : List ℕ) (end x : ℕ) (put : notesOf wk′ ≡ withGather
     todo = ap (λ (n : Notes). n .todo) put ∙ b .todo;
     todoEnd = ap (λ (n : Notes). n .todoEnd) put ∙ b .todoEnd;
     roots = ap (λ (n : Notes). n .roots) put ∙ b .roots;
-    rootsEnd = ap (λ (n : Notes). n .rootsEnd) put ∙ b .rootsEnd;
+    blocksEnd = ap (λ (n : Notes). n .blocksEnd) put ∙ b .blocksEnd;
   }
 
 pub beside-refl : {wk : List ℕ} → Whole wk → Beside wk wk
-beside-refl w = record { whole = w; todo = refl; todoEnd = refl; roots = refl; rootsEnd = refl }
+beside-refl w = record { whole = w; todo = refl; todoEnd = refl; roots = refl; blocksEnd = refl }
 
 pub beside-trans : {wk wk′ wk″ : List ℕ} → Beside wk wk′ → Beside wk′ wk″ → Beside wk wk″
 beside-trans a b = record {
@@ -48,7 +48,7 @@ beside-trans a b = record {
   todo = b .todo ∙ a .todo;
   todoEnd = b .todoEnd ∙ a .todoEnd;
   roots = b .roots ∙ a .roots;
-  rootsEnd = b .rootsEnd ∙ a .rootsEnd;
+  blocksEnd = b .blocksEnd ∙ a .blocksEnd;
 }
 
 -- the walk --------------------------------------------------------------------------------------------------------

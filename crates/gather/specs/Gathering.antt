@@ -35,7 +35,7 @@ pub record Beside (wk wk′ : List ℕ) : Type 0 where
   pub todo : notesOf wk′ .todo ≡ notesOf wk .todo
   pub todoEnd : notesOf wk′ .todoEnd ≡ notesOf wk .todoEnd
   pub roots : notesOf wk′ .roots ≡ notesOf wk .roots
-  pub rootsEnd : notesOf wk′ .rootsEnd ≡ notesOf wk .rootsEnd
+  pub blocksEnd : notesOf wk′ .blocksEnd ≡ notesOf wk .blocksEnd
 
 -- the n that were gathered hold every wide clause that mentions r
 pub record Gathering (ix st wk : List ℕ) (r : ℕ) (wk′ : List ℕ) (n : ℕ) : Type 0 where

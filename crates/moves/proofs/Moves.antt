@@ -23,7 +23,7 @@ module _ {ix st wk : List ℕ} where
   }
 
   pub went-refl : Sound ix st wk → Went ix st wk st wk
-  went-refl s = record { sound = s; noting = noting-refl; fewer = omega arith; links = refl; roots = refl; rootsEnd = refl }
+  went-refl s = record { sound = s; noting = noting-refl; fewer = omega arith; links = refl; roots = refl; blocksEnd = refl }
 
   pub moved-refl : Sound ix st wk → Moved ix st wk st wk
   moved-refl s = record { went = went-refl s; gathered = refl }
@@ -60,7 +60,7 @@ module _ {ix st wk st′ wk′ st″ wk″ : List ℕ} where
     fewer = omega (arith, a .fewer, b .fewer);
     links = b .links ∙ a .links;
     roots = b .roots ∙ a .roots;
-    rootsEnd = b .rootsEnd ∙ a .rootsEnd;
+    blocksEnd = b .blocksEnd ∙ a .blocksEnd;
   }
 
   pub moved-trans : Moved ix st wk st′ wk′ → Moved ix st′ wk′ st″ wk″ → Moved ix st wk st″ wk″

@@ -27,7 +27,7 @@ pub record Went (ix st wk st′ wk′ : List ℕ) : Type 0 where
   pub fewer : roots (tallyOf st′ .values) maxVariables ≤ roots (tallyOf st .values) maxVariables
   pub links : tallyOf st′ .links ≡ tallyOf st .links
   pub roots : notesOf wk′ .roots ≡ notesOf wk .roots
-  pub rootsEnd : notesOf wk′ .rootsEnd ≡ notesOf wk .rootsEnd
+  pub blocksEnd : notesOf wk′ .blocksEnd ≡ notesOf wk .blocksEnd
 
 -- and what was gathered too
 pub record Moved (ix st wk st′ wk′ : List ℕ) : Type 0 where

@@ -8,7 +8,7 @@ use Rattle.occurrences.specs.Index.{Indexed, clauseCount}
 use Rattle.tally.specs.Tally.{tallyOf}
 use Rattle.tally.specs.Ring.{Classes}
 use Rattle.tally.specs.Counts.{Exact, room, roots}
-use Rattle.notes.specs.Notes.{notesOf, Whole, maxRoots}
+use Rattle.notes.specs.Notes.{notesOf, Whole, maxBlocks}
 
 -- the index is right, the counts are the state's, the classes are rings, and the lists have room for every note and tie that may still come
 pub record Sound (ix st wk : List ℕ) : Type 0 where
@@ -18,6 +18,6 @@ pub record Sound (ix st wk : List ℕ) : Type 0 where
   pub classes : Classes (tallyOf st .values) (tallyOf st .links)
   pub whole : Whole wk
   pub todo-room : notesOf wk .todoEnd + room ix (tallyOf st .values) ≤ maxTable
-  pub roots-room : notesOf wk .rootsEnd + roots (tallyOf st .values) maxVariables ≤ maxRoots
+  pub blocks-room : notesOf wk .blocksEnd + roots (tallyOf st .values) maxVariables ≤ maxBlocks
   pub todo-inside : (i : ℕ) → i < notesOf wk .todoEnd → getD (notesOf wk .todo) i 0 < clauseCount ix
-  pub roots-inside : (i : ℕ) → i < notesOf wk .rootsEnd → (0 < getD (notesOf wk .roots) i 0) × (getD (notesOf wk .roots) i 0 ≤ maxVariables)
+  pub roots-inside : (i : ℕ) → i < notesOf wk .blocksEnd → (0 < getD (notesOf wk .roots) i 0) × (getD (notesOf wk .roots) i 0 ≤ maxVariables)

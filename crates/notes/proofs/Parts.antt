@@ -1,31 +1,31 @@
 -- The parts of the work space: each is read at its offset, and writing one keeps the others.
 use mathlib.Core.Path.{_≡_, ap, sym, _∙_}
 use mathlib.Core.List.{List}
-use Prim.Native.Nat.{ℕ, _+_, _<_}
+use Prim.Native.Nat.{ℕ, _+_, _*_, _<_}
 use native.Mathlib.Omega.{arith}
 use lib.ListN.{getD, set, length-set}
 use lib.Seq.{getD-set-same, getD-set-other}
 use Rattle.general.specs.Parts.{part-at, part-set, part-before, part-after}
-use Rattle.literal.specs.Literal.{maxTable, maxLiterals}
-use Rattle.notes.specs.Notes.{Notes, notesOf, withTodo, withTodoEnd, withRoot, withRootsEnd, withGathered, Whole, maxRoots, todoEndAt, rootsFrom, rootsEndAt, gatheredFrom}
+use Rattle.literal.specs.Literal.{maxTable}
+use Rattle.notes.specs.Notes.{Notes, notesOf, blockAt, withTodo, withTodoEnd, withWord, withBlock, withBlocksEnd, withGathered, Whole, maxBlocks, maxGathered, todoEndAt, blocksFrom, blocksEndAt, gatheredFrom}
 
-same-parts : {a b : Notes} → a .todo ≡ b .todo → a .todoEnd ≡ b .todoEnd → a .roots ≡ b .roots → a .rootsEnd ≡ b .rootsEnd → a .gathered ≡ b .gathered → a ≡ b
+same-parts : {a b : Notes} → a .todo ≡ b .todo → a .todoEnd ≡ b .todoEnd → a .blocks ≡ b .blocks → a .blocksEnd ≡ b .blocksEnd → a .gathered ≡ b .gathered → a ≡ b
 same-parts {a} {b} t m r n g =
-    ap (λ (l : List ℕ). record { todo = l; todoEnd = a .todoEnd; roots = a .roots; rootsEnd = a .rootsEnd; gathered = a .gathered }) t ∙
-    ap (λ (k : ℕ). record { todo = b .todo; todoEnd = k; roots = a .roots; rootsEnd = a .rootsEnd; gathered = a .gathered }) m ∙
-    ap (λ (l : List ℕ). record { todo = b .todo; todoEnd = b .todoEnd; roots = l; rootsEnd = a .rootsEnd; gathered = a .gathered }) r ∙
-    ap (λ (k : ℕ). record { todo = b .todo; todoEnd = b .todoEnd; roots = b .roots; rootsEnd = k; gathered = a .gathered }) n ∙
-    ap (λ (l : List ℕ). record { todo = b .todo; todoEnd = b .todoEnd; roots = b .roots; rootsEnd = b .rootsEnd; gathered = l }) g
+    ap (λ (l : List ℕ). record { todo = l; todoEnd = a .todoEnd; blocks = a .blocks; blocksEnd = a .blocksEnd; gathered = a .gathered }) t ∙
+    ap (λ (k : ℕ). record { todo = b .todo; todoEnd = k; blocks = a .blocks; blocksEnd = a .blocksEnd; gathered = a .gathered }) m ∙
+    ap (λ (l : List ℕ). record { todo = b .todo; todoEnd = b .todoEnd; blocks = l; blocksEnd = a .blocksEnd; gathered = a .gathered }) r ∙
+    ap (λ (k : ℕ). record { todo = b .todo; todoEnd = b .todoEnd; blocks = b .blocks; blocksEnd = k; gathered = a .gathered }) n ∙
+    ap (λ (l : List ℕ). record { todo = b .todo; todoEnd = b .todoEnd; blocks = b .blocks; blocksEnd = b .blocksEnd; gathered = l }) g
 
 module _ (wk : List ℕ) where
   pub reads-todo : (i : ℕ) → i < maxTable → getD wk i 0 ≡ getD (notesOf wk .todo) i 0
   reads-todo i h = let e : 0 + i ≡ i = omega arith in sym (rw e at (part-at 0 maxTable wk i 0 h))
 
-  pub reads-root : (i : ℕ) → i < maxRoots → getD wk (rootsFrom + i) 0 ≡ getD (notesOf wk .roots) i 0
-  reads-root i h = sym (part-at rootsFrom maxRoots wk i 0 h)
+  pub reads-word : (i : ℕ) → i < 4 * maxBlocks → getD wk (blocksFrom + i) 0 ≡ getD (notesOf wk .blocks) i 0
+  reads-word i h = sym (part-at blocksFrom (4 * maxBlocks) wk i 0 h)
 
-  pub reads-gathered : (i : ℕ) → i < maxLiterals → getD wk (gatheredFrom + i) 0 ≡ getD (notesOf wk .gathered) i 0
-  reads-gathered i h = sym (part-at gatheredFrom maxLiterals wk i 0 h)
+  pub reads-gathered : (i : ℕ) → i < maxGathered → getD wk (gatheredFrom + i) 0 ≡ getD (notesOf wk .gathered) i 0
+  reads-gathered i h = sym (part-at gatheredFrom maxGathered wk i 0 h)
 
   module _ (whole : Whole wk) (x : ℕ) where
     -- what is written at j is at no other index
@@ -37,21 +37,22 @@ module _ (wk : List ℕ) where
 
     pub writes-todo : (i : ℕ) → i < maxTable → notesOf (set wk i x) ≡ withTodo i x (notesOf wk)
     writes-todo i h = let e : 0 + i ≡ i = omega arith in
-        same-parts (rw e at (part-set 0 maxTable wk i x)) (other i todoEndAt (λ q. omega arith)) (part-before rootsFrom maxRoots wk i x (omega arith)) (other i rootsEndAt (λ q. omega arith))
-        (part-before gatheredFrom maxLiterals wk i x (omega arith))
+        same-parts (rw e at (part-set 0 maxTable wk i x)) (other i todoEndAt (λ q. omega arith)) (part-before blocksFrom (4 * maxBlocks) wk i x (omega arith)) (other i blocksEndAt (λ q. omega arith))
+        (part-before gatheredFrom maxGathered wk i x (omega arith))
 
     pub writes-todo-end : notesOf (set wk todoEndAt x) ≡ withTodoEnd x (notesOf wk)
-    writes-todo-end = same-parts (part-after 0 maxTable wk todoEndAt x (omega arith)) (getD-set-same wk todoEndAt x 0 (omega (arith, whole .long))) (part-before rootsFrom maxRoots wk todoEndAt x (omega arith))
-        (other todoEndAt rootsEndAt (λ q. omega arith)) (part-before gatheredFrom maxLiterals wk todoEndAt x (omega arith))
+    writes-todo-end = same-parts (part-after 0 maxTable wk todoEndAt x (omega arith)) (getD-set-same wk todoEndAt x 0 (omega (arith, whole .long))) (part-before blocksFrom (4 * maxBlocks) wk todoEndAt x (omega arith))
+        (other todoEndAt blocksEndAt (λ q. omega arith)) (part-before gatheredFrom maxGathered wk todoEndAt x (omega arith))
 
-    pub writes-root : (i : ℕ) → i < maxRoots → notesOf (set wk (rootsFrom + i) x) ≡ withRoot i x (notesOf wk)
-    writes-root i h = same-parts (part-after 0 maxTable wk (rootsFrom + i) x (omega arith)) (other (rootsFrom + i) todoEndAt (λ q. omega arith)) (part-set rootsFrom maxRoots wk i x)
-        (other (rootsFrom + i) rootsEndAt (λ q. omega arith)) (part-before gatheredFrom maxLiterals wk (rootsFrom + i) x (omega arith))
+    pub writes-word : (i : ℕ) → i < 4 * maxBlocks → notesOf (set wk (blocksFrom + i) x) ≡ withWord i x (notesOf wk)
+    writes-word i h = same-parts (part-after 0 maxTable wk (blocksFrom + i) x (omega arith)) (other (blocksFrom + i) todoEndAt (λ q. omega arith)) (part-set blocksFrom (4 * maxBlocks) wk i x)
+        (other (blocksFrom + i) blocksEndAt (λ q. omega arith)) (part-before gatheredFrom maxGathered wk (blocksFrom + i) x (omega arith))
 
-    pub writes-roots-end : notesOf (set wk rootsEndAt x) ≡ withRootsEnd x (notesOf wk)
-    writes-roots-end = same-parts (part-after 0 maxTable wk rootsEndAt x (omega arith)) (other rootsEndAt todoEndAt (λ q. omega arith)) (part-after rootsFrom maxRoots wk rootsEndAt x (omega arith))
-        (getD-set-same wk rootsEndAt x 0 (omega (arith, whole .long))) (part-before gatheredFrom maxLiterals wk rootsEndAt x (omega arith))
+    pub writes-blocks-end : notesOf (set wk blocksEndAt x) ≡ withBlocksEnd x (notesOf wk)
+    writes-blocks-end = same-parts (part-after 0 maxTable wk blocksEndAt x (omega arith)) (other blocksEndAt todoEndAt (λ q. omega arith)) (part-after blocksFrom (4 * maxBlocks) wk blocksEndAt x (omega arith))
+        (getD-set-same wk blocksEndAt x 0 (omega (arith, whole .long))) (part-before gatheredFrom maxGathered wk blocksEndAt x (omega arith))
 
-    pub writes-gathered : (i : ℕ) → i < maxLiterals → notesOf (set wk (gatheredFrom + i) x) ≡ withGathered i x (notesOf wk)
-    writes-gathered i h = same-parts (part-after 0 maxTable wk (gatheredFrom + i) x (omega arith)) (other (gatheredFrom + i) todoEndAt (λ q. omega arith)) (part-after rootsFrom maxRoots wk (gatheredFrom + i) x (omega arith))
-        (other (gatheredFrom + i) rootsEndAt (λ q. omega arith)) (part-set gatheredFrom maxLiterals wk i x)
+    pub writes-gathered : (i : ℕ) → i < maxGathered → notesOf (set wk (gatheredFrom + i) x) ≡ withGathered i x (notesOf wk)
+    writes-gathered i h = same-parts (part-after 0 maxTable wk (gatheredFrom + i) x (omega arith)) (other (gatheredFrom + i) todoEndAt (λ q. omega arith)) (part-after blocksFrom (4 * maxBlocks) wk (gatheredFrom + i) x (omega arith))
+        (other (gatheredFrom + i) blocksEndAt (λ q. omega arith)) (part-set gatheredFrom maxGathered wk i x)
+

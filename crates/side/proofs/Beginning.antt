@@ -19,7 +19,7 @@ use Rattle.side.specs.Side.{Tallied, Siding, Begun}
 use Rattle.side.proofs.Splitting.{code-open}
 
 -- with nothing listed a state is sound
-pub tallied-sound : {ix st wk : List ℕ} → Tallied ix st → Whole wk → notesOf wk .todoEnd ≡ 0 → notesOf wk .rootsEnd ≡ 0 → Sound ix st wk
+pub tallied-sound : {ix st wk : List ℕ} → Tallied ix st → Whole wk → notesOf wk .todoEnd ≡ 0 → notesOf wk .blocksEnd ≡ 0 → Sound ix st wk
 tallied-sound t w e r = record {
   index = t .index;
   exact = t .exact;
@@ -27,7 +27,7 @@ tallied-sound t w e r = record {
   classes = t .classes;
   whole = w;
   todo-room = omega (arith, t .room);
-  roots-room = omega (arith, t .roots);
+  blocks-room = omega (arith, t .roots);
   todo-inside = λ i h. absurd (omega arith);
   roots-inside = λ i h. absurd (omega arith);
 }
@@ -54,10 +54,10 @@ module _ {ix st wk : List ℕ} {x : ℕ} (k : Siding ix st wk x) where
   valid : Valid maxVariables s (literalAt x) FALSE
   valid = record { fixed-x = fixed; fixed-t = base-false (well-based (k .well)); lower = opened; inside = inside }
 
-  pub siding-decidable : (wk′ : List ℕ) → Whole wk′ → notesOf wk′ .todoEnd ≡ 0 → notesOf wk′ .rootsEnd ≡ 0 → Decidable ix st wk′ x
+  pub siding-decidable : (wk′ : List ℕ) → Whole wk′ → notesOf wk′ .todoEnd ≡ 0 → notesOf wk′ .blocksEnd ≡ 0 → Decidable ix st wk′ x
   siding-decidable wk′ w e r = record { sound = tallied-sound (k .calm .tallied) w e r; opened = k .opened; below = k .below; root = k .root }
 
-  pub siding-begun : (wk′ st″ wk″ : List ℕ) → Whole wk′ → notesOf wk′ .todoEnd ≡ 0 → notesOf wk′ .rootsEnd ≡ 0 → (r : Bool) → Decided ix st wk′ x st″ wk″ r → Begun ix st x st″ wk″ r
+  pub siding-begun : (wk′ st″ wk″ : List ℕ) → Whole wk′ → notesOf wk′ .todoEnd ≡ 0 → notesOf wk′ .blocksEnd ≡ 0 → (r : Bool) → Decided ix st wk′ x st″ wk″ r → Begun ix st x st″ wk″ r
   siding-begun wk′ st″ wk″ w e r true d = d
   siding-begun wk′ st″ wk″ w e r false d =
       let c = k .calm in (

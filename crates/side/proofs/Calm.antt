@@ -26,7 +26,7 @@ sound-tallied s = record {
   linked = s .linked;
   classes = s .classes;
   room = omega (arith, s .todo-room);
-  roots = omega (arith, s .roots-room);
+  roots = omega (arith, s .blocks-room);
 }
 
 pub rested-calm : {ix st st′ wk′ : List ℕ} → Rested ix st st′ wk′ → Calm ix st′

@@ -14,7 +14,7 @@ use Rattle.tally.specs.Tally.{tallyOf, stateIn, valueIn}
 use Rattle.tally.specs.Ring.{Classes}
 use Rattle.tally.specs.Counts as counts
 use Rattle.tally.specs.Counts.{Exact}
-use Rattle.notes.specs.Notes.{Whole, maxRoots}
+use Rattle.notes.specs.Notes.{Whole, maxBlocks}
 use Rattle.moves.specs.Deciding.{DeadIn}
 use Rattle.engine.specs.Ready.{Ready}
 
@@ -25,7 +25,7 @@ pub record Tallied (ix st : List ℕ) : Type 0 where
   pub linked : length (tallyOf st .links) ≡ variables
   pub classes : Classes (tallyOf st .values) (tallyOf st .links)
   pub room : counts.room ix (tallyOf st .values) ≤ maxTable
-  pub roots : counts.roots (tallyOf st .values) maxVariables ≤ maxRoots
+  pub roots : counts.roots (tallyOf st .values) maxVariables ≤ maxBlocks
 
 -- no rule fits
 pub record Calm (ix st : List ℕ) : Type 0 where

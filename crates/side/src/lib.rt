@@ -27,7 +27,7 @@ pub fn begin(index: &Index, state: &mut Tally, work: &mut Notes, x: u16) -> bool
     ensures { λ r. ⌜ Begun (now (index .entry)) (now (state .entry)) x (now (state .exit)) (now (work .exit)) r ⌝ }
 {
     notes::set_todo_end(work, 0);
-    notes::set_roots_end(work, 0);
+    notes::set_blocks_end(work, 0);
     decide::decide(index, state, work, x)
 }
 

@@ -19,7 +19,7 @@ use Rattle.occurrences.proofs.Formulas.{mem-formula}
 use Rattle.tally.specs.Tally.{Tally, tallyOf, withCount}
 use Rattle.tally.specs.Counts.{Exact}
 use Rattle.tally.proofs.Standing.{clause-length}
-use Rattle.notes.specs.Notes.{Notes, notesOf, Whole, withTodo, withTodoEnd, withRootsEnd}
+use Rattle.notes.specs.Notes.{Notes, notesOf, Whole, withTodo, withTodoEnd, withBlocksEnd}
 use Rattle.moves.specs.Stepping.{Died}
 use Rattle.engine.proofs.Along.{within-indexed}
 use Rattle.start.specs.Opening.{OpenBelow}
@@ -92,7 +92,7 @@ module _ {ix : List ℕ} (st : List ℕ) {w : Notes} {end : ℕ} (index : Indexe
     low = λ g h. omega (arith, c .counts g h, clause-length index g h);
   }
 
-  pub counted-ends : {wk : List ℕ} → Whole wk → notesOf wk ≡ withRootsEnd 0 (withTodoEnd end w) → Fresh ix st wk
+  pub counted-ends : {wk : List ℕ} → Whole wk → notesOf wk ≡ withBlocksEnd 0 (withTodoEnd end w) → Fresh ix st wk
   counted-ends {wk} whole is = record {
     initially = open-initial (c .opened);
     sound = record {
@@ -102,7 +102,7 @@ module _ {ix : List ℕ} (st : List ℕ) {w : Notes} {end : ℕ} (index : Indexe
       classes = open-classes (c .opened);
       whole = whole;
       todo-room = omega (arith, ends, c .few, index .few, room-few index (tallyOf st .values));
-      roots-room = omega (arith, none, roots-few (tallyOf st .values) maxVariables);
+      blocks-room = omega (arith, none, roots-few (tallyOf st .values) maxVariables);
       todo-inside = λ i h. rw todo (c .inside i (omega (arith, ends)));
       roots-inside = λ i h. absurd (omega (arith, none));
     };
@@ -118,8 +118,8 @@ module _ {ix : List ℕ} (st : List ℕ) {w : Notes} {end : ℕ} (index : Indexe
       ends : notesOf wk .todoEnd ≡ end
       ends = ap (λ (k : Notes). k .todoEnd) is
 
-      none : notesOf wk .rootsEnd ≡ 0
-      none = ap (λ (k : Notes). k .rootsEnd) is
+      none : notesOf wk .blocksEnd ≡ 0
+      none = ap (λ (k : Notes). k .blocksEnd) is
 
       todo : notesOf wk .todo ≡ w .todo
       todo = ap (λ (k : Notes). k .todo) is

@@ -16,7 +16,7 @@ use Rattle.theory.proofs.PairsBut.{PairsBut}
 use Rattle.occurrences.specs.Index.{Indexed, clauseCount, clauseOf, formulaOf, firstAt, occurrenceAt}
 use Rattle.occurrences.proofs.Formulas.{before-index}
 use Rattle.general.specs.Lists.{before-left}
-use Rattle.notes.specs.Notes.{Notes, notesOf, withRoot, withRootsEnd, Whole, maxRoots}
+use Rattle.notes.specs.Notes.{Notes, notesOf, withRoot, withBlocksEnd, Whole, maxBlocks}
 use Rattle.gather.proofs.Placed.{literal-placed}
 use Rattle.engine.proofs.Along.{within-indexed}
 use Rattle.start.specs.Signs.{Signed, BothSigns, ListedBelow, Listing}
@@ -64,19 +64,19 @@ module _ {ix : List ℕ} (index : Indexed ix) where
 
 -- the list -----------------------------------------------------------------------------------------------------------
 
-roots-long : {wk : List ℕ} → Whole wk → length (notesOf wk .roots) ≡ maxRoots
+roots-long : {wk : List ℕ} → Whole wk → length (notesOf wk .roots) ≡ maxBlocks
 roots-long {wk} h = simp (length-take, length-drop) (omega (arith, h .long))
 
-pub listed-begins : {ix : List ℕ} (w : Notes) → ListedBelow ix (withRootsEnd 0 w) 1
+pub listed-begins : {ix : List ℕ} (w : Notes) → ListedBelow ix (withBlocksEnd 0 w) 1
 listed-begins w = record {
   listed = λ p o h s. absurd (omega arith);
   inside = λ i h. absurd (omega arith);
   few = omega arith;
 }
 
-module _ {ix : List ℕ} (w : Notes) {end n : ℕ} (b : ListedBelow ix (withRootsEnd end w) n) where
+module _ {ix : List ℕ} (w : Notes) {end n : ℕ} (b : ListedBelow ix (withBlocksEnd end w) n) where
   -- one that has not both signs need not be listed
-  pub listed-past : (¬ BothSigns ix n) → ListedBelow ix (withRootsEnd end w) (n + 1)
+  pub listed-past : (¬ BothSigns ix n) → ListedBelow ix (withBlocksEnd end w) (n + 1)
   listed-past unlike = record {
     listed = λ p o h s. elim (decEq p n) [
       | yes e ↦ absurd (unlike (rw e at s))
@@ -86,7 +86,7 @@ module _ {ix : List ℕ} (w : Notes) {end n : ℕ} (b : ListedBelow ix (withRoot
     few = omega (arith, b .few);
   }
 
-  listed-goes : 0 < n → n ≤ maxVariables → length (w .roots) ≡ maxRoots → ListedBelow ix (withRootsEnd (end + 1) (withRoot end n w)) (n + 1)
+  listed-goes : 0 < n → n ≤ maxVariables → length (w .roots) ≡ maxBlocks → ListedBelow ix (withBlocksEnd (end + 1) (withRoot end n w)) (n + 1)
   listed-goes o low long = record {
     listed = λ p q h s. elim (decEq p n) [
       | yes e ↦ (end, omega arith, last ∙ sym e)
@@ -107,23 +107,23 @@ module _ {ix : List ℕ} (w : Notes) {end n : ℕ} (b : ListedBelow ix (withRoot
 
 -- no turn changes what is noted
 module _ {ix : List ℕ} where
-  pub listing-none : {wk : List ℕ} {end n : ℕ} → Whole wk → ListedBelow ix (withRootsEnd end (notesOf wk)) n → Listing ix wk wk end n
+  pub listing-none : {wk : List ℕ} {end n : ℕ} → Whole wk → ListedBelow ix (withBlocksEnd end (notesOf wk)) n → Listing ix wk wk end n
   listing-none w b = record { whole = w; todo = refl; todoEnd = refl; below = b }
 
-  pub listing-one : {wk wk′ : List ℕ} {end n : ℕ} → Whole wk → 0 < n → n ≤ maxVariables → ListedBelow ix (withRootsEnd end (notesOf wk)) n → Whole wk′ →
+  pub listing-one : {wk wk′ : List ℕ} {end n : ℕ} → Whole wk → 0 < n → n ≤ maxVariables → ListedBelow ix (withBlocksEnd end (notesOf wk)) n → Whole wk′ →
       notesOf wk′ ≡ withRoot end n (notesOf wk) → Listing ix wk wk′ (end + 1) (n + 1)
   listing-one {wk} {end = end} {n = n} w o h b w′ e = record {
     whole = w′;
     todo = ap (λ (k : Notes). k .todo) e;
     todoEnd = ap (λ (k : Notes). k .todoEnd) e;
-    below = subst (λ (k : Notes). ListedBelow ix (withRootsEnd (end + 1) k) (n + 1)) (sym e) (listed-goes (notesOf wk) b o h (roots-long w));
+    below = subst (λ (k : Notes). ListedBelow ix (withBlocksEnd (end + 1) k) (n + 1)) (sym e) (listed-goes (notesOf wk) b o h (roots-long w));
   }
 
   pub listing-goes : {wk wk′ wk″ : List ℕ} {end n more m : ℕ} → Listing ix wk wk′ end n → Listing ix wk′ wk″ more m → Listing ix wk wk″ more m
   listing-goes a b = record { whole = b .whole; todo = b .todo ∙ a .todo; todoEnd = b .todoEnd ∙ a .todoEnd; below = b .below }
 
-  pub listing-ends : {wk wk′ wk″ : List ℕ} {end n : ℕ} → Listing ix wk wk′ end n → Whole wk″ → notesOf wk″ ≡ withRootsEnd end (notesOf wk′) →
-      Listing ix wk wk″ (notesOf wk″ .rootsEnd) n
+  pub listing-ends : {wk wk′ wk″ : List ℕ} {end n : ℕ} → Listing ix wk wk′ end n → Whole wk″ → notesOf wk″ ≡ withBlocksEnd end (notesOf wk′) →
+      Listing ix wk wk″ (notesOf wk″ .blocksEnd) n
   listing-ends {n = n} a w e = record {
     whole = w;
     todo = ap (λ (k : Notes). k .todo) e ∙ a .todo;

@@ -35,7 +35,7 @@ module _ {ix st wk : List ℕ} (fresh : Fresh ix st wk) where
   pub fresh-died : Died (formulaOf ix) (stateIn st) → Died (formulaOf ix) initial
   fresh-died d = rw (fresh .initially) at d
 
-  module _ {st′ wk′ wk″ : List ℕ} (b : UndoubledBelow ix st wk st′ wk′ (maxVariables + 1)) (l : Listing ix wk′ wk″ (notesOf wk″ .rootsEnd) (maxVariables + 1)) where
+  module _ {st′ wk′ wk″ : List ℕ} (b : UndoubledBelow ix st wk st′ wk′ (maxVariables + 1)) (l : Listing ix wk′ wk″ (notesOf wk″ .blocksEnd) (maxVariables + 1)) where
     within : Within maxVariables (formulaOf ix)
     within = within-indexed (fresh .sound .index)
 
@@ -62,7 +62,7 @@ module _ {ix st wk : List ℕ} (fresh : Fresh ix st wk) where
           classes = s .classes;
           whole = l .whole;
           todo-room = omega (arith, s .todo-room, l .todoEnd);
-          roots-room = omega (arith, l .below .few, roots-few (tallyOf st′ .values) maxVariables);
+          blocks-room = omega (arith, l .below .few, roots-few (tallyOf st′ .values) maxVariables);
           todo-inside = λ i h. rw (l .todo) (s .todo-inside i (omega (arith, l .todoEnd)));
           roots-inside = λ i h. let k = l .below .inside i h in (k .0, omega (arith, k .1));
         }

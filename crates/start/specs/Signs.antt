@@ -5,7 +5,7 @@ use mathlib.Core.List.{List}
 use Prim.Native.Nat.{ℕ, _+_, _%_, _≤_, _<_}
 use lib.ListN.{getD}
 use Rattle.occurrences.specs.Index.{firstAt, occurrenceAt}
-use Rattle.notes.specs.Notes.{Notes, notesOf, withRootsEnd, Listed, Whole}
+use Rattle.notes.specs.Notes.{Notes, notesOf, withBlocksEnd, Listed, Whole}
 
 -- variable p has an occurrence of this sign
 abbrev pub Signed : (ix : List ℕ) → ℕ → ℕ → Type 0
@@ -22,12 +22,12 @@ SignsOf ix p false = ¬ BothSigns ix p
 -- the variables below n with both signs are listed, in a list of variables below n
 pub record ListedBelow (ix : List ℕ) (w : Notes) (n : ℕ) : Type 0 where
   pub listed : (p : ℕ) → 0 < p → p < n → BothSigns ix p → Listed w p
-  pub inside : (i : ℕ) → i < w .rootsEnd → (0 < getD (w .roots) i 0) × (getD (w .roots) i 0 < n)
-  pub few : w .rootsEnd < n
+  pub inside : (i : ℕ) → i < w .blocksEnd → (0 < getD (w .roots) i 0) × (getD (w .roots) i 0 < n)
+  pub few : w .blocksEnd < n
 
 -- of which there are `end`, and the notes are as they were
 pub record Listing (ix wk wk′ : List ℕ) (end n : ℕ) : Type 0 where
   pub whole : Whole wk′
   pub todo : notesOf wk′ .todo ≡ notesOf wk .todo
   pub todoEnd : notesOf wk′ .todoEnd ≡ notesOf wk .todoEnd
-  pub below : ListedBelow ix (withRootsEnd end (notesOf wk′)) n
+  pub below : ListedBelow ix (withBlocksEnd end (notesOf wk′)) n

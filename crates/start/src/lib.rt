@@ -7,7 +7,7 @@ ghost use Rattle.general.specs.Booleans.{bit};
 ghost use Rattle.literal.specs.Literal.{maxVariables, maxLiterals, variables};
 ghost use Rattle.occurrences.specs.Index.{Indexed, occurrenceAt, clauseCount, clauseOf};
 ghost use Rattle.tally.specs.Tally.{tallyOf, tallySize};
-ghost use Rattle.notes.specs.Notes.{notesOf, withRootsEnd, Whole};
+ghost use Rattle.notes.specs.Notes.{notesOf, withBlocksEnd, Whole};
 ghost use Rattle.tie.specs.Doubling.{DoublesOf};
 ghost use Rattle.start.specs.Opening.{OpenBelow};
 ghost use Rattle.start.specs.Counting.{CountsOf};
@@ -68,7 +68,7 @@ fn count_all(index: &Index, state: &mut Tally, work: &mut Notes) -> bool
         end += short(count);
     }
     notes::set_todo_end(work, end);
-    notes::set_roots_end(work, 0);
+    notes::set_blocks_end(work, 0);
     false
 }
 
@@ -129,7 +129,7 @@ fn list_at(index: &Index, work: &mut Notes, end: usize, p: usize) -> usize
     requires { ⌜ Whole (now work) ⌝ }
     requires { ⌜ 0 < p ⌝ }
     requires { ⌜ p ≤ maxVariables ⌝ }
-    requires { ⌜ ListedBelow (now index) (withRootsEnd end (notesOf (now work))) p ⌝ }
+    requires { ⌜ ListedBelow (now index) (withBlocksEnd end (notesOf (now work))) p ⌝ }
     ensures { λ r. ⌜ Listing (now (index .entry)) (now (work .entry)) (now (work .exit)) r (p + 1) ⌝ }
 {
     if both_signs(index, p) {
@@ -144,13 +144,13 @@ fn list_at(index: &Index, work: &mut Notes, end: usize, p: usize) -> usize
 fn list_all(index: &Index, work: &mut Notes)
     requires { ⌜ Indexed (now index) ⌝ }
     requires { ⌜ Whole (now work) ⌝ }
-    ensures { λ _. ⌜ Listing (now (index .entry)) (now (work .entry)) (now (work .exit)) (notesOf (now (work .exit)) .rootsEnd) (maxVariables + 1) ⌝ }
+    ensures { λ _. ⌜ Listing (now (index .entry)) (now (work .entry)) (now (work .exit)) (notesOf (now (work .exit)) .blocksEnd) (maxVariables + 1) ⌝ }
 {
     let mut end = 0;
     for p in 1..Literal::VARIABLES {
         end = list_at(index, work, end, p);
     }
-    notes::set_roots_end(work, end);
+    notes::set_blocks_end(work, end);
 }
 
 // Everything is open, and what a rule may fit is noted; true is a dead end.

@@ -7,13 +7,13 @@ use native.Mathlib.Decide.{decLt}
 use native.Mathlib.Omega.{arith}
 use lib.ListN.{getD, set, length, length-take, length-drop}
 use lib.Seq.{getD-set-same, getD-set-other}
-use Rattle.notes.specs.Notes.{Notes, notesOf, withRoot, withRootsEnd, Whole, maxRoots}
+use Rattle.notes.specs.Notes.{Notes, notesOf, withRoot, withBlocksEnd, Whole, maxBlocks}
 use Rattle.tie.specs.Listing.{Pushed}
 
-room : {wk : List ℕ} → Whole wk → length (notesOf wk .roots) ≡ maxRoots
+room : {wk : List ℕ} → Whole wk → length (notesOf wk .roots) ≡ maxBlocks
 room whole = simp (length-take, length-drop) (omega (arith, whole .long))
 
-module _ {wk : List ℕ} (whole : Whole wk) (r end : ℕ) (is : end ≡ notesOf wk .rootsEnd) where
+module _ {wk : List ℕ} (whole : Whole wk) (r end : ℕ) (is : end ≡ notesOf wk .blocksEnd) where
   pub pushed-already : 0 < end → getD (notesOf wk .roots) (end - 1) 0 ≡ r → Pushed wk r wk
   pushed-already h e = record {
     whole = whole;
@@ -27,7 +27,7 @@ module _ {wk : List ℕ} (whole : Whole wk) (r end : ℕ) (is : end ≡ notesOf 
     only = λ i b. inl b;
   }
 
-  pub pushed-new : end < maxRoots → (mid wk′ : List ℕ) → notesOf mid ≡ withRoot end r (notesOf wk) → notesOf wk′ ≡ withRootsEnd (end + 1) (notesOf mid) → Whole wk′ → Pushed wk r wk′
+  pub pushed-new : end < maxBlocks → (mid wk′ : List ℕ) → notesOf mid ≡ withRoot end r (notesOf wk) → notesOf wk′ ≡ withBlocksEnd (end + 1) (notesOf mid) → Whole wk′ → Pushed wk r wk′
   pushed-new low mid wk′ a b w = record {
     whole = w;
     todo = ap (λ (n : Notes). n .todo) e;
@@ -37,17 +37,17 @@ module _ {wk : List ℕ} (whole : Whole wk) (r end : ℕ) (is : end ≡ notesOf 
     grows = omega (arith, ended);
     one = omega (arith, ended);
     kept = λ i h. rw listed-at (getD-set-other (notesOf wk .roots) end i r 0 (λ q. omega arith));
-    only = λ i h. elim (decLt i (notesOf wk .rootsEnd)) [
+    only = λ i h. elim (decLt i (notesOf wk .blocksEnd)) [
       | yes k ↦ inl k
       | no k ↦ inr (let j : i ≡ end = omega (arith, ended) in rw (j, listed-at) here)
     ];
   }
     where
-      e : notesOf wk′ ≡ withRootsEnd (end + 1) (withRoot end r (notesOf wk))
-      e = b ∙ ap (withRootsEnd (end + 1)) a
+      e : notesOf wk′ ≡ withBlocksEnd (end + 1) (withRoot end r (notesOf wk))
+      e = b ∙ ap (withBlocksEnd (end + 1)) a
 
-      ended : notesOf wk′ .rootsEnd ≡ end + 1
-      ended = ap (λ (n : Notes). n .rootsEnd) e
+      ended : notesOf wk′ .blocksEnd ≡ end + 1
+      ended = ap (λ (n : Notes). n .blocksEnd) e
 
       listed-at : notesOf wk′ .roots ≡ set (notesOf wk .roots) end r
       listed-at = ap (λ (n : Notes). n .roots) e

@@ -24,7 +24,7 @@ use Rattle.occurrences.proofs.Formulas.{formula-mem}
 use Rattle.tally.specs.Tally.{tallyOf, stateIn, countIn}
 use Rattle.tally.specs.Counts.{truesOf, opensOf, Exact}
 use Rattle.tally.proofs.Standing.{opens-standing, trues-standing}
-use Rattle.notes.specs.Notes.{notesOf, Listed, Gathered, maxRoots}
+use Rattle.notes.specs.Notes.{notesOf, Listed, Gathered, maxBlocks}
 use Rattle.moves.specs.Sound.{Sound}
 use Rattle.moves.specs.Moving.{Noting, Moved}
 use Rattle.moves.proofs.Moves.{noting-trans}
@@ -105,8 +105,8 @@ module _ {ix st wk : List ℕ} {low high : ℕ} (d : Tieable ix st wk low high) 
       same-count g = ap (λ (l : List ℕ). getD l g 0) (j .counts)
 
       module _ {wk₁ : List ℕ} {n : ℕ} (k : Gathering ix st wk (high / 2) wk₁ n) where
-        pub tying-room : notesOf wk₁ .rootsEnd < maxRoots
-        tying-room = omega (arith, k .beside .rootsEnd, s .roots-room, j .fewer)
+        pub tying-room : notesOf wk₁ .blocksEnd < maxBlocks
+        tying-room = omega (arith, k .beside .blocksEnd, s .blocks-room, j .fewer)
 
         module _ {wk₂ : List ℕ} (p : Pushed wk₁ (low / 2) wk₂) where
           same-todo-end : notesOf wk₂ .todoEnd ≡ notesOf wk .todoEnd
@@ -123,10 +123,10 @@ module _ {ix st wk : List ℕ} {low high : ℕ} (d : Tieable ix st wk low high) 
             classes = j .classes;
             whole = p .whole;
             todo-room = omega (arith, same-todo-end, j .loads (width ix) variables, s .todo-room);
-            roots-room = omega (arith, p .one, k .beside .rootsEnd, j .fewer, s .roots-room);
+            blocks-room = omega (arith, p .one, k .beside .blocksEnd, j .fewer, s .blocks-room);
             todo-inside = λ i h. rw same-todo (s .todo-inside i (omega (arith, same-todo-end)));
             roots-inside = λ i h. ⊎-elim
-                (λ b. rw (p .kept i b, k .beside .roots) (s .roots-inside i (omega (arith, k .beside .rootsEnd))))
+                (λ b. rw (p .kept i b, k .beside .roots) (s .roots-inside i (omega (arith, k .beside .blocksEnd))))
                 (λ e. rw e ((omega (arith, d .opened)), omega (arith, d .order, d .below)))
                 (p .only i h);
           }
@@ -153,7 +153,7 @@ module _ {ix st wk : List ℕ} {low high : ℕ} (d : Tieable ix st wk low high) 
           -- what was listed is, and the lower root
           listed : (r : ℕ) → Listed (notesOf wk) r ⊎ (r ≡ var t) → Listed (notesOf wk₂) r
           listed r (inl (i, h, e)) =
-              let b : i < notesOf wk₁ .rootsEnd = omega (arith, k .beside .rootsEnd) in
+              let b : i < notesOf wk₁ .blocksEnd = omega (arith, k .beside .blocksEnd) in
               (i, omega (arith, p .grows), p .kept i b ∙ ap (λ (l : List ℕ). getD l i 0) (k .beside .roots) ∙ e)
           listed r (inr e) = rw (e ∙ var-t) (p .listed)
 
@@ -181,8 +181,8 @@ module _ {ix st wk : List ℕ} {low high : ℕ} (d : Tieable ix st wk low high) 
               noting = noting-trans noting (moved .went .noting);
               distinct = distinct-weaken (distinct-looked (falls-distinct path (rw step (distinct-tied (d .distinct) x t opened-x))) (low / 2) once)
                   (λ r q. ⊎-elim (λ z. z) (λ e. q .1 (e ∙ var-t)) (q .0));
-              pairs = pairs-weaken (λ r i. (i .0, omega (arith, i .1, moved .went .rootsEnd), ap (λ (l : List ℕ). getD l (i .0) 0) (moved .went .roots) ∙ i .2)) (falls-pairs path pairs);
-              listed = omega (arith, moved .went .rootsEnd, p .one, k .beside .rootsEnd);
+              pairs = pairs-weaken (λ r i. (i .0, omega (arith, i .1, moved .went .blocksEnd), ap (λ (l : List ℕ). getD l (i .0) 0) (moved .went .roots) ∙ i .2)) (falls-pairs path pairs);
+              listed = omega (arith, moved .went .blocksEnd, p .one, k .beside .blocksEnd);
               fewer = omega (arith, moved .went .fewer, j .fewer);
             }
               where

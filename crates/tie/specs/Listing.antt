@@ -13,7 +13,7 @@ pub record Pushed (wk : List ℕ) (r : ℕ) (wk′ : List ℕ) : Type 0 where
   pub todoEnd : notesOf wk′ .todoEnd ≡ notesOf wk .todoEnd
   pub gathered : notesOf wk′ .gathered ≡ notesOf wk .gathered
   pub listed : Listed (notesOf wk′) r
-  pub grows : notesOf wk .rootsEnd ≤ notesOf wk′ .rootsEnd
-  pub one : notesOf wk′ .rootsEnd ≤ notesOf wk .rootsEnd + 1
-  pub kept : (i : ℕ) → i < notesOf wk .rootsEnd → getD (notesOf wk′ .roots) i 0 ≡ getD (notesOf wk .roots) i 0
-  pub only : (i : ℕ) → i < notesOf wk′ .rootsEnd → (i < notesOf wk .rootsEnd) ⊎ (getD (notesOf wk′ .roots) i 0 ≡ r)
+  pub grows : notesOf wk .blocksEnd ≤ notesOf wk′ .blocksEnd
+  pub one : notesOf wk′ .blocksEnd ≤ notesOf wk .blocksEnd + 1
+  pub kept : (i : ℕ) → i < notesOf wk .blocksEnd → getD (notesOf wk′ .roots) i 0 ≡ getD (notesOf wk .roots) i 0
+  pub only : (i : ℕ) → i < notesOf wk′ .blocksEnd → (i < notesOf wk .blocksEnd) ⊎ (getD (notesOf wk′ .roots) i 0 ≡ r)

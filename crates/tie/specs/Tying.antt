@@ -35,7 +35,7 @@ pub record Tied (ix st wk st′ wk′ : List ℕ) : Type 0 where
   pub noting : Noting ix st wk st′ wk′
   pub distinct : DistinctBut (λ p. ⊥) (formulaOf ix) (stateIn st′)
   pub pairs : PairsBut (Listed (notesOf wk′)) (formulaOf ix) (stateIn st′)
-  pub listed : notesOf wk′ .rootsEnd ≤ notesOf wk .rootsEnd + 1
+  pub listed : notesOf wk′ .blocksEnd ≤ notesOf wk .blocksEnd + 1
   pub fewer : roots (tallyOf st′ .values) maxVariables < roots (tallyOf st .values) maxVariables
 
 -- after a dead end (true) nothing is known of the state and the lists

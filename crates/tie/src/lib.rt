@@ -6,7 +6,7 @@ ghost use Rattle.general.specs.Booleans.{bit};
 ghost use Rattle.literal.specs.Literal.{codeOf, literalAt, maxVariables};
 ghost use Rattle.theory.specs.State.{replace};
 ghost use Rattle.tally.specs.Tally.{tallyOf};
-ghost use Rattle.notes.specs.Notes.{notesOf, Whole, maxRoots};
+ghost use Rattle.notes.specs.Notes.{notesOf, Whole, maxBlocks};
 ghost use Rattle.tie.specs.Turning.{Turnable, Turned, Joined, withSwapped};
 ghost use Rattle.tie.specs.Listing.{Pushed};
 ghost use Rattle.tie.specs.Doubling.{stood, Signable, Doubling, Undoubled, DoublingAll, UndoubledAll, OpenRoot, DoublesOf};
@@ -97,17 +97,17 @@ pub fn doubles_at(index: &Index, state: &mut Tally, work: &mut Notes, r: u16) ->
 // Lists root r for its pairs, unless it is the last one listed already.
 pub fn push_root(work: &mut Notes, r: u16)
     requires { ⌜ Whole (now work) ⌝ }
-    requires { ⌜ notesOf (now work) .rootsEnd < maxRoots ⌝ }
+    requires { ⌜ notesOf (now work) .blocksEnd < maxBlocks ⌝ }
     ensures { λ _. ⌜ Pushed (now (work .entry)) r (now (work .exit)) ⌝ }
 {
-    let end = notes::roots_end(work);
+    let end = notes::blocks_end(work);
     if 0 < end {
         if notes::root_at(work, end - 1) == r {
             return;
         }
     }
     notes::put_root(work, end, r);
-    notes::set_roots_end(work, end + 1);
+    notes::set_blocks_end(work, end + 1);
 }
 
 // What a literal v of the variable of x stands for once x stands for t.

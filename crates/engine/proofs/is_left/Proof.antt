@@ -9,7 +9,7 @@ use Rattle.engine.proofs.is_left.Tie as tie
 returns-2 : tie.Need-returns-2
 returns-2 c =
     let e = c .before .before in
-    left-last _ _ (c .roots-end .result) (omega (arith, c .before .if1 .left, e .todo-end .ensures)) (c .roots-end .ensures)
+    left-last _ _ (c .blocks-end .result) (omega (arith, c .before .if1 .left, e .todo-end .ensures)) (c .blocks-end .ensures)
 
 pub is-left-spec : {M : Type 1} → statement M
 is-left-spec =

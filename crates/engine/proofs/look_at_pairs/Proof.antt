@@ -4,22 +4,22 @@ use mathlib.Core.Path.{_≡_, sym, _∙_}
 use native.Mathlib.Omega.{arith}
 use borrow.Author.Needs.{needs}
 use Rattle.literal.specs.Literal.{maxVariables}
-use Rattle.notes.specs.Notes.{notesOf, maxRoots}
+use Rattle.notes.specs.Notes.{notesOf, maxBlocks}
 use Rattle.engine.proofs.Turns.{tieable, ready-pair, turned-shut, turned-looked, turned-by-pair}
 use Rattle.engine.proofs.look_at_pairs.Statement.{statement}
 use Rattle.engine.proofs.look_at_pairs.Tie as tie
 
 -- the last listed root is the one at the end of the list
-last : (c : tie.After-roots-end) → notesOf (c .before .before .args .work .now) .rootsEnd ≡ c .roots-end .result - 1 + 1
-last c = omega (arith, c .roots-end .ensures, c .before .before .pre .1 .1)
+last : (c : tie.After-blocks-end) → notesOf (c .before .before .args .work .now) .blocksEnd ≡ c .blocks-end .result - 1 + 1
+last c = omega (arith, c .blocks-end .ensures, c .before .before .pre .1 .1)
 
 known : (c : tie.After-root-at) → (0 < c .root-at .result) × (c .root-at .result ≤ maxVariables)
 known c =
     let e = c .before .before in
-    rw (c .root-at .ensures) (e .before .before .pre .0 .sound .roots-inside (e .roots-end .result - 1) (omega (arith, last e)))
+    rw (c .root-at .ensures) (e .before .before .pre .0 .sound .roots-inside (e .blocks-end .result - 1) (omega (arith, last e)))
 
-short : (c : tie.After-roots-end) → c .roots-end .result ≤ maxRoots
-short c = omega (arith, c .roots-end .ensures, c .before .before .pre .0 .sound .roots-room)
+short : (c : tie.After-blocks-end) → c .blocks-end .result ≤ maxBlocks
+short c = omega (arith, c .blocks-end .ensures, c .before .before .pre .0 .sound .blocks-room)
 
 returns : tie.Need-returns
 returns c =
@@ -28,7 +28,7 @@ returns c =
     let r = v .before .before in
     let e = r .before .before in
     let s = e .before .before in
-    turned-shut (s .pre .0) (s .pre .1 .0) (record { last = last e; is = c .set-roots-end .ensures .0; whole = c .set-roots-end .ensures .1 }) (r .root-at .result) (r .root-at .ensures)
+    turned-shut (s .pre .0) (s .pre .1 .0) (record { last = last e; is = c .set-blocks-end .ensures .0; whole = c .set-blocks-end .ensures .1 }) (r .root-at .result) (r .root-at .ensures)
     (λ q. t .if1 .taken (v .value-of .ensures ∙ q))
 
 pairs-at-requires : tie.Need-pairs-at-requires
@@ -45,8 +45,8 @@ pairs-at-requires c κs =
       root = sym (v .value-of .ensures) ∙ n .if1 .left;
     }
 
-set-roots-end-requires-2 : tie.Need-set-roots-end-requires-2
-set-roots-end-requires-2 c κs =
+set-blocks-end-requires-2 : tie.Need-set-blocks-end-requires-2
+set-blocks-end-requires-2 c κs =
     let o = c .before .before .before in
     let e = o .before .before .before .before .before .before .before .before in
     let q = rw (c .before .enum-told .given .1) at (o .pairs-at .ensures) in
@@ -61,7 +61,7 @@ returns-2 c =
     let s = e .before .before in
     let q = rw (t .enum-told .given .1) at (o .pairs-at .ensures) in
     turned-looked (s .pre .0) (s .pre .1 .0) (q .0)
-    (record { last = q .0 .went .rootsEnd ∙ last e; is = c .set-roots-end2 .ensures .0; whole = c .set-roots-end2 .ensures .1 }) (r .root-at .result) (r .root-at .ensures) (q .1)
+    (record { last = q .0 .went .blocksEnd ∙ last e; is = c .set-blocks-end2 .ensures .0; whole = c .set-blocks-end2 .ensures .1 }) (r .root-at .result) (r .root-at .ensures) (q .1)
 
 returns-3 : tie.Need-returns-3
 returns-3 c = rw (c .enum-told2 .given .1) at (c .before .before .pairs-at .ensures)
@@ -96,7 +96,7 @@ look-at-pairs-spec =
     returns
     pairs-at-requires
     (λ c. search needs)
-    set-roots-end-requires-2
+    set-blocks-end-requires-2
     (λ c. search needs)
     (λ c. search needs)
     make-tie-requires

@@ -9,7 +9,7 @@ use Rattle.general.specs.Bits.{bit-le}
 use Rattle.literal.specs.Literal.{maxClauses}
 use Rattle.occurrences.specs.Index.{clauseCount}
 use Rattle.tally.specs.Tally.{tallyOf}
-use Rattle.notes.specs.Notes.{notesOf, Whole, withRootsEnd}
+use Rattle.notes.specs.Notes.{notesOf, Whole, withBlocksEnd}
 use Rattle.start.specs.Counting.{CountedBelow}
 use Rattle.start.proofs.Counting.{counted-begins, counted-goes, counted-ends, todo-long, empty-dies}
 use Rattle.start.proofs.count_all.Statement.{statement}
@@ -66,16 +66,16 @@ loop-again c =
 set-todo-end-requires : tie.Need-set-todo-end-requires Inv-loop μ-loop
 set-todo-end-requires c κs = let l = c .before .before .loop in (omega (arith, l .inv .1, l .inv .2, l .inv .4 .few), l .inv .3)
 
-set-roots-end-requires : tie.Need-set-roots-end-requires Inv-loop μ-loop
-set-roots-end-requires c κs = (omega arith, c .before .set-todo-end .ensures .1)
+set-blocks-end-requires : tie.Need-set-blocks-end-requires Inv-loop μ-loop
+set-blocks-end-requires c κs = (omega arith, c .before .set-todo-end .ensures .1)
 
 returns-2 : tie.Need-returns-2 Inv-loop μ-loop
 returns-2 c =
     let l = c .before .before .before .before .before .loop in
     let s = c .before .before .before .before .before .before .before in
     let e : l .g ≡ clauseCount (now (s .args .index)) = omega (arith, l .inv .1) in
-    counted-ends (l .state) (s .pre .0) (rw e at (l .inv .4)) (c .set-roots-end .ensures .1)
-    (c .set-roots-end .ensures .0 ∙ ap (withRootsEnd 0) (c .before .before .set-todo-end .ensures .0))
+    counted-ends (l .state) (s .pre .0) (rw e at (l .inv .4)) (c .set-blocks-end .ensures .1)
+    (c .set-blocks-end .ensures .0 ∙ ap (withBlocksEnd 0) (c .before .before .set-todo-end .ensures .0))
 
 pub count-all-spec : {M : Type 1} → statement M
 count-all-spec =
@@ -96,5 +96,5 @@ count-all-spec =
     (λ c. search needs)
     loop-again
     set-todo-end-requires
-    set-roots-end-requires
+    set-blocks-end-requires
     returns-2)

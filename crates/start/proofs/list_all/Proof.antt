@@ -27,14 +27,14 @@ list-at-requires c κs =
 loop-again : tie.Need-loop-again Inv-loop μ-loop
 loop-again c = let l = c .before .before .before .loop in (omega arith, omega arith, listing-goes (l .inv .2) (c .list-at .ensures))
 
-set-roots-end-requires : tie.Need-set-roots-end-requires Inv-loop μ-loop
-set-roots-end-requires c κs = let l = c .before .before .loop in (omega (arith, l .inv .2 .below .few), l .inv .2 .whole)
+set-blocks-end-requires : tie.Need-set-blocks-end-requires Inv-loop μ-loop
+set-blocks-end-requires c κs = let l = c .before .before .loop in (omega (arith, l .inv .2 .below .few), l .inv .2 .whole)
 
 returns : tie.Need-returns Inv-loop μ-loop
 returns c =
     let l = c .before .before .before .loop in
     let e : l .p ≡ variables = omega arith in
-    listing-ends (rw e at (l .inv .2)) (c .set-roots-end .ensures .1) (c .set-roots-end .ensures .0)
+    listing-ends (rw e at (l .inv .2)) (c .set-blocks-end .ensures .1) (c .set-blocks-end .ensures .0)
 
 pub list-all-spec : {M : Type 1} → statement M
 list-all-spec =
@@ -47,5 +47,5 @@ list-all-spec =
     (λ c. search needs)
     (λ c. search needs)
     loop-again
-    set-roots-end-requires
+    set-blocks-end-requires
     returns)
