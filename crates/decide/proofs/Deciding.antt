@@ -104,7 +104,6 @@ module _ {ix st wk : List ℕ} {x : ℕ} (d : Decidable ix st wk x) (st′ wk′
       | yes b ↦ rw (t .adding .kept i b) (s .todo-inside i b)
       | no b ↦ t .adding .fresh i (omega arith) h
     ];
-    roots-inside = λ i h. rw (t .adding .roots) (s .roots-inside i (omega (arith, t .adding .blocksEnd)));
   }
 
   moved : Moved ix st wk st′ wk′
@@ -114,7 +113,7 @@ module _ {ix st wk : List ℕ} {x : ℕ} (d : Decidable ix st wk x) (st′ wk′
       noting = record { grows = t .adding .grows; kept = t .adding .kept; few = t .adding .few; paid = t .paid; never = t .adding .never; won = t .adding .won };
       fewer = omega (arith, fewer);
       links = t .adding .links;
-      roots = t .adding .roots;
+      blocks = t .adding .blocks;
       blocksEnd = t .adding .blocksEnd;
     };
     gathered = t .adding .gathered;

@@ -25,7 +25,7 @@ adding-none = record {
   never = λ g h o. o;
   won = λ g h a b. absurd (omega arith);
   links = refl;
-  roots = refl;
+  blocks = refl;
   blocksEnd = refl;
   gathered = refl;
 }
@@ -55,7 +55,7 @@ module _ {ix : List ℕ} {t : Tally} {n : Notes} {u : Tally} {m : Notes} {v : Ta
       | no p ↦ early g (a .won g h x (omega arith))
     ];
     links = b .links ∙ a .links;
-    roots = b .roots ∙ a .roots;
+    blocks = b .blocks ∙ a .blocks;
     blocksEnd = b .blocksEnd ∙ a .blocksEnd;
     gathered = b .gathered ∙ a .gathered;
   }
@@ -70,7 +70,7 @@ adding-valued t p to a = record {
   never = a .never;
   won = a .won;
   links = a .links;
-  roots = a .roots;
+  blocks = a .blocks;
   blocksEnd = a .blocksEnd;
   gathered = a .gathered;
 }
@@ -111,7 +111,7 @@ module _ (ix : List ℕ) (t : Tally) (n : Notes) (o to c : ℕ) (is : c ≡ reco
           | no e ↦ rw (getD-set-other (t .counts) (o / 2) g c 0 e) (λ x y. absurd (omega arith))
         ];
     links = refl;
-    roots = refl;
+    blocks = refl;
     blocksEnd = refl;
     gathered = refl;
   }

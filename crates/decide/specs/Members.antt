@@ -33,7 +33,7 @@ pub record Adding (ix : List ℕ) (t : Tally) (n : Notes) (u : Tally) (m : Notes
   pub never : (g : ℕ) → g < clauseCount ix → 0 < getD (t .counts) g 0 → 0 < getD (u .counts) g 0
   pub won : (g : ℕ) → g < clauseCount ix → getD (t .counts) g 0 < oneTrue → oneTrue ≤ getD (u .counts) g 0 → Noted m (n .todoEnd) g
   pub links : u .links ≡ t .links
-  pub roots : m .roots ≡ n .roots
+  pub blocks : m .blocks ≡ n .blocks
   pub blocksEnd : m .blocksEnd ≡ n .blocksEnd
   pub gathered : m .gathered ≡ n .gathered
 

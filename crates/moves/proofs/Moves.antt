@@ -23,7 +23,7 @@ module _ {ix st wk : List ℕ} where
   }
 
   pub went-refl : Sound ix st wk → Went ix st wk st wk
-  went-refl s = record { sound = s; noting = noting-refl; fewer = omega arith; links = refl; roots = refl; blocksEnd = refl }
+  went-refl s = record { sound = s; noting = noting-refl; fewer = omega arith; links = refl; blocks = refl; blocksEnd = refl }
 
   pub moved-refl : Sound ix st wk → Moved ix st wk st wk
   moved-refl s = record { went = went-refl s; gathered = refl }
@@ -59,7 +59,7 @@ module _ {ix st wk st′ wk′ st″ wk″ : List ℕ} where
     noting = noting-trans (a .noting) (b .noting);
     fewer = omega (arith, a .fewer, b .fewer);
     links = b .links ∙ a .links;
-    roots = b .roots ∙ a .roots;
+    blocks = b .blocks ∙ a .blocks;
     blocksEnd = b .blocksEnd ∙ a .blocksEnd;
   }
 

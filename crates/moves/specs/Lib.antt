@@ -1,4 +1,5 @@
 pub mod Sound
 pub mod Moving
+pub mod Listing
 pub mod Deciding
 pub mod Stepping

@@ -20,13 +20,13 @@ pub record Noting (ix st wk st′ wk′ : List ℕ) : Type 0 where
   pub never : (g : ℕ) → g < clauseCount ix → 0 < countIn st g → 0 < countIn st′ g
   pub won : (g : ℕ) → g < clauseCount ix → countIn st g < oneTrue → oneTrue ≤ countIn st′ g → Noted (notesOf wk′) (notesOf wk .todoEnd) g
 
--- variables were decided: the rings and the listed roots are as they were, and no variable became a root
+-- variables were decided: the rings and the listed blocks are as they were, and no variable became a root
 pub record Went (ix st wk st′ wk′ : List ℕ) : Type 0 where
   pub sound : Sound ix st′ wk′
   pub noting : Noting ix st wk st′ wk′
   pub fewer : roots (tallyOf st′ .values) maxVariables ≤ roots (tallyOf st .values) maxVariables
   pub links : tallyOf st′ .links ≡ tallyOf st .links
-  pub roots : notesOf wk′ .roots ≡ notesOf wk .roots
+  pub blocks : notesOf wk′ .blocks ≡ notesOf wk .blocks
   pub blocksEnd : notesOf wk′ .blocksEnd ≡ notesOf wk .blocksEnd
 
 -- and what was gathered too

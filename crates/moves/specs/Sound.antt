@@ -20,4 +20,3 @@ pub record Sound (ix st wk : List ℕ) : Type 0 where
   pub todo-room : notesOf wk .todoEnd + room ix (tallyOf st .values) ≤ maxTable
   pub blocks-room : notesOf wk .blocksEnd + roots (tallyOf st .values) maxVariables ≤ maxBlocks
   pub todo-inside : (i : ℕ) → i < notesOf wk .todoEnd → getD (notesOf wk .todo) i 0 < clauseCount ix
-  pub roots-inside : (i : ℕ) → i < notesOf wk .blocksEnd → (0 < getD (notesOf wk .roots) i 0) × (getD (notesOf wk .roots) i 0 ≤ maxVariables)

@@ -4,6 +4,6 @@ pub mod Standing
 pub mod Rings
 pub mod Turned
 pub mod Stretches
-pub mod Entries
+pub mod Blocks
 pub mod Walks
 pub mod Loads

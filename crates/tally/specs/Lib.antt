@@ -1,5 +1,5 @@
 pub mod Tally
 pub mod Ring
 pub mod Stretch
-pub mod Entry
+pub mod Block
 pub mod Counts
