@@ -6,35 +6,41 @@ use Prim.Native.Nat.{ℕ, _+_, _*_, _/_, _≤_, _<_}
 use Rattle.literal.specs.Literal.{opposite, literalAt, maxVariables, codes}
 use Rattle.theory.proofs.Asks.{Asks}
 use Rattle.theory.proofs.Propagation.{Steps}
-use Rattle.theory.proofs.PairsBut.{PairsBut}
+use Rattle.theory.proofs.Paired.{Adds}
 use Rattle.theory.proofs.DistinctBut.{DistinctBut}
 use Rattle.occurrences.specs.Index.{formulaOf}
 use Rattle.tally.specs.Tally.{tallyOf, stateIn, valueIn}
 use Rattle.tally.specs.Counts.{roots}
-use Rattle.notes.specs.Notes.{notesOf, Listed, Whole}
+use Rattle.notes.specs.Notes.{notesOf, Whole}
 use Rattle.moves.specs.Sound.{Sound}
 use Rattle.moves.specs.Moving.{Noting}
+use Rattle.moves.specs.Listing.{Listed, Blocks, Carried}
 use Rattle.moves.specs.Stepping.{Died}
 
--- codes of literals of two open roots, of which some rule asks that they are tied
-pub record Tieable (ix st wk : List ℕ) (low high : ℕ) : Type 0 where
-  pub sound : Sound ix st wk
+-- some rule asks that of two open roots' literals, given by their codes, of which low's is the lower, exactly one is true
+pub record Tying (ix st : List ℕ) (low high : ℕ) : Type 0 where
   pub opened : 1 < low
   pub order : low / 2 < high / 2
   pub below : high < codes
   pub low-root : valueIn st (low / 2) ≡ 2 * (low / 2)
   pub high-root : valueIn st (high / 2) ≡ 2 * (high / 2)
   pub asked : Asks (formulaOf ix) (stateIn st) (literalAt high) (opposite (literalAt low))
-  pub distinct : DistinctBut (λ p. ⊥) (formulaOf ix) (stateIn st)
-  pub pairs : PairsBut (Listed (notesOf wk)) (formulaOf ix) (stateIn st)
 
--- one root more is listed at most, and one fewer is open
+pub record Tieable (ix st wk : List ℕ) (low high : ℕ) : Type 0 where
+  pub tying : Tying ix st low high
+  pub sound : Sound ix st wk
+  pub distinct : DistinctBut (λ p. ⊥) (formulaOf ix) (stateIn st)
+  pub blocks : Blocks st wk
+
+-- what meets now and did not before is listed; one block more is at most, and one root fewer is open
 pub record Tied (ix st wk st′ wk′ : List ℕ) : Type 0 where
   pub steps : (k : ℕ) × Steps (formulaOf ix) (stateIn st) (stateIn st′) k
   pub sound : Sound ix st′ wk′
   pub noting : Noting ix st wk st′ wk′
   pub distinct : DistinctBut (λ p. ⊥) (formulaOf ix) (stateIn st′)
-  pub pairs : PairsBut (Listed (notesOf wk′)) (formulaOf ix) (stateIn st′)
+  pub blocks : Blocks st′ wk′
+  pub carried : Carried st wk st′ wk′
+  pub adds : Adds (Listed st′ wk′) (formulaOf ix) (stateIn st) (stateIn st′)
   pub listed : notesOf wk′ .blocksEnd ≤ notesOf wk .blocksEnd + 1
   pub fewer : roots (tallyOf st′ .values) maxVariables < roots (tallyOf st .values) maxVariables
 
