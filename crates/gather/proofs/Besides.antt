@@ -25,7 +25,6 @@ module _ {ix st wk : List ℕ} (s : Sound ix st wk) where
       todo-room = rw (b .todoEnd) (s .todo-room);
       blocks-room = rw (b .blocksEnd) (s .blocks-room);
       todo-inside = rw (b .todoEnd, b .todo) (s .todo-inside);
-      roots-inside = rw (b .blocksEnd, b .roots) (s .roots-inside);
     }
 
     -- no step was made
@@ -41,7 +40,7 @@ module _ {ix st wk : List ℕ} (s : Sound ix st wk) where
         never = λ g h u. u;
       };
       links = refl;
-      roots = b .roots;
+      blocks = b .blocks;
       blocksEnd = b .blocksEnd;
       fewer = omega arith;
     }

@@ -1,6 +1,6 @@
 pub mod Written
 pub mod Placed
-pub mod Ahead
+pub mod Along
 pub mod Waits
 pub mod Collects
 pub mod Gathers

@@ -23,12 +23,8 @@ pub fn signed(occurrence: u16, sign: Sign) -> usize
 {
     match sign {
         Sign::Either => 1,
-        Sign::Positive => {
-            if occurrence % 2 == 0 { 1 } else { 0 }
-        }
-        Sign::Negative => {
-            if occurrence % 2 == 1 { 1 } else { 0 }
-        }
+        Sign::Positive => { if occurrence % 2 == 0 { 1 } else { 0 } }
+        Sign::Negative => { if occurrence % 2 == 1 { 1 } else { 0 } }
     }
 }
 
@@ -123,14 +119,14 @@ pub fn stands_live(index: &Index, state: &Tally, r: u16) -> bool
     requires { ⌜ AtRoot (now index) (now state) r ⌝ }
     ensures { λ b. ⌜ StandsLive (now (index .entry)) (now (state .entry)) r b ⌝ }
 {
-    let mut p = r as usize;
+    let mut p = tally::link_of(state, r as usize) as usize;
     loop {
-        p = tally::link_of(state, p) as usize;
         if stands_wide(index, state, p) {
             return true;
         }
         if p == r as usize {
             return false;
         }
+        p = tally::link_of(state, p) as usize;
     }
 }

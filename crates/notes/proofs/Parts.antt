@@ -55,4 +55,3 @@ module _ (wk : List ℕ) where
     pub writes-gathered : (i : ℕ) → i < maxGathered → notesOf (set wk (gatheredFrom + i) x) ≡ withGathered i x (notesOf wk)
     writes-gathered i h = same-parts (part-after 0 maxTable wk (gatheredFrom + i) x (omega arith)) (other (gatheredFrom + i) todoEndAt (λ q. omega arith)) (part-after blocksFrom (4 * maxBlocks) wk (gatheredFrom + i) x (omega arith))
         (other (gatheredFrom + i) blocksEndAt (λ q. omega arith)) (part-set gatheredFrom maxGathered wk i x)
-

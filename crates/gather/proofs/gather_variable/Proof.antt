@@ -8,10 +8,10 @@ use Rattle.gather.proofs.gather_variable.Statement.{statement}
 use Rattle.gather.proofs.gather_variable.Tie as tie
 
 abbrev Inv-loop : tie.InvT-loop
-Inv-loop index state work₀ p start end₀ first last j₀ work end j = Collects index state work₀ p start first last work end j
+Inv-loop index state work₀ p start sign end₀ first last j₀ work end j = Collects index state work₀ p start sign first last work end j
 
 abbrev μ-loop : tie.MeasureT-loop
-μ-loop index state work₀ p start end₀ first last j₀ work end j = last - j
+μ-loop index state work₀ p start sign end₀ first last j₀ work end j = last - j
 
 first-of-requires : tie.Need-first-of-requires Inv-loop μ-loop
 first-of-requires c κs = omega (arith, c .pre .inside)
@@ -48,21 +48,25 @@ wide-requires c κs = search needs
 
 loop-again : tie.Need-loop-again Inv-loop μ-loop
 loop-again c =
-    let k = c .before in
+    let w = c .before in
+    let k = w .before in
     let u = k .before in
     let e = u .before .before in
     let t = e .before in
     collects-goes (t .before .loop .inv) (t .loop-test .taken) (e .occurrence-at .result) (e .occurrence-at .ensures)
-    _ (u .put-gathered .ensures .0) (u .put-gathered .ensures .1) (k .count-of .result) (c .wide .result) (k .count-of .ensures) (c .wide .ensures)
+    _ (u .put-gathered .ensures .0) (u .put-gathered .ensures .1) (k .count-of .result) (w .wide .result) (c .signed .result) (k .count-of .ensures) (w .wide .ensures) (c .signed .ensures)
+
+mul-end : tie.Need-mul-end Inv-loop μ-loop
+mul-end c = omega (arith, loop-again c .paid, loop-again c .room, loop-again c .waits .begins, loop-again c .waits .ends, loop-again c .waits .to-last)
 
 add-end : tie.Need-add-end Inv-loop μ-loop
 add-end c = omega (arith, loop-again c .paid, loop-again c .room, loop-again c .waits .begins, loop-again c .waits .ends, loop-again c .waits .to-last)
 
 add-j : tie.Need-add-j Inv-loop μ-loop
-add-j c = let t = c .before .before .before .before .before in omega (arith, place-known (t .before .loop .inv .waits) (t .loop-test .taken))
+add-j c = let t = c .before .before .before .before .before .before in omega (arith, place-known (t .before .loop .inv .waits) (t .loop-test .taken))
 
 loop-less : tie.Need-loop-less Inv-loop μ-loop
-loop-less c = omega (arith, c .before .before .before .before .before .loop-test .taken)
+loop-less c = omega (arith, c .before .before .before .before .before .before .loop-test .taken)
 
 returns : tie.Need-returns Inv-loop μ-loop
 returns c = collects-ends (c .before .loop .inv) (c .loop-test .left)
@@ -82,6 +86,8 @@ gather-variable-spec =
     cast-count-of
     count-of-requires
     wide-requires
+    (λ c κs. search needs)
+    mul-end
     add-end
     add-j
     loop-less

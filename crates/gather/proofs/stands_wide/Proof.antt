@@ -1,6 +1,6 @@
 -- `stands_wide` meets its contract, by the laws of Waits.
 use mathlib.Core.Path.{ap, sym, _∙_}
-use Prim.Native.Nat.{_-_, _/_}
+use Prim.Native.Nat.{_-_, _/_, _<_}
 use borrow.Author.Needs.{needs}
 use native.Mathlib.Omega.{arith}
 use Rattle.general.specs.Booleans.{bit}
@@ -11,7 +11,7 @@ use Rattle.gather.proofs.stands_wide.Statement.{statement}
 use Rattle.gather.proofs.stands_wide.Tie as tie
 
 abbrev Inv-loop : tie.InvT-loop
-Inv-loop index state p first last j₀ j = Waits index state (λ g. ⊥) p first last j
+Inv-loop index state p first last j₀ j = Waits index state (λ k. k < 2) (λ g. ⊥) p first last j
 
 abbrev μ-loop : tie.MeasureT-loop
 μ-loop index state p first last j₀ j = last - j
@@ -70,10 +70,10 @@ loop-again c =
     let e = k .before in
     let t = e .before in
     waits-goes (t .before .loop .inv) (t .loop-test .taken) (e .occurrence-at .result) (e .occurrence-at .ensures) (λ g d. d)
-    (λ i. c .if1 .left (w .wide .ensures ∙ ap (λ n. bit (isWide n)) (k .count-of .ensures) ∙ ap bit (i .1)))
+    (λ i q. c .if1 .left (w .wide .ensures ∙ ap (λ n. bit (isWide n)) (k .count-of .ensures) ∙ ap bit (i .1)))
 
 returns-2 : tie.Need-returns-2 Inv-loop μ-loop
-returns-2 c = waits-ends (c .before .loop .inv) (c .loop-test .left)
+returns-2 c = λ g w i. waits-ends (c .before .loop .inv) (c .loop-test .left) g w (i .0) (i .1) (i .1) (i .2)
 
 pub stands-wide-spec : {M : Type 1} → statement M
 stands-wide-spec =
