@@ -3,6 +3,9 @@ pub mod Marks
 pub mod Meeting
 pub mod Reading
 pub mod Matched
-pub mod Earlier
-pub mod Pairing
+pub mod Widths
+pub mod Compares
 pub mod Passes
+pub mod Sharing
+pub mod Looking
+pub mod Rows

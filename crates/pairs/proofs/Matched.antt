@@ -18,15 +18,15 @@ use Rattle.theory.proofs.Closed.{NoFalse}
 use Rattle.theory.proofs.Ties.{ties-higher, ties-opposite}
 use Rattle.theory.proofs.Asks.{standing-no-false}
 use Rattle.theory.proofs.Counts.{Distinct, Wide, not-both}
-use Rattle.theory.proofs.Pairs.{Meets, asks-common, asks-crossed}
+use Rattle.theory.proofs.Pairs.{Meets, asks-crossed}
 use Rattle.occurrences.specs.Index.{Indexed, clauseCount, clauseOf, formulaOf}
 use Rattle.occurrences.proofs.Formulas.{index-before}
 use Rattle.tally.specs.Tally.{tallyOf, stateIn, valueIn}
 use Rattle.tally.specs.Ring.{Classes}
 use Rattle.theory.proofs.States.{value-variable}
 use Rattle.gather.proofs.Written.{known, stands-for}
+use Rattle.tie.specs.Tying.{Tying}
 use Rattle.pairs.specs.Meeting.{Marked, Like, Across, MetBy}
-use Rattle.pairs.specs.Pairing.{Falling, Tying}
 use Rattle.pairs.specs.declared.Met.the-variants.{Apart, Common, Crossed}
 use Rattle.pairs.proofs.Clauses.{wide-open, code-high}
 
@@ -118,24 +118,15 @@ module _ (ix st : List ℕ) (index : Indexed ix) (classes : Classes (tallyOf st 
       ]
     ]
 
-    pub meets-falling : (x : ℕ) (b : Literal) → 1 < x → List·Memᴰ (literalAt x) (standing (stateIn st) (clauseOf ix h)) →
-        Meets Wide (standing (stateIn st) (clauseOf ix g)) (standing (stateIn st) (clauseOf ix h)) (literalAt x) b → Falling ix st x
-    meets-falling x b o n m = let k = code-root h ih x n in record {
-      opened = o;
-      below = k .1;
-      root = k .0;
-      asked = asks-common (λ c w. w .none-true) (stateIn st) (clauseOf ix g) (clauseOf ix h) (before m) m n;
-    }
-
     pub meets-tying : (low high : ℕ) → 1 < low → low / 2 < high / 2 → List·Memᴰ (literalAt low) (standing (stateIn st) (clauseOf ix h)) →
         List·Memᴰ (literalAt high) (standing (stateIn st) (clauseOf ix h)) →
         Meets Wide (standing (stateIn st) (clauseOf ix g)) (standing (stateIn st) (clauseOf ix h)) (opposite (literalAt low)) (opposite (literalAt high)) → Tying ix st low high
     meets-tying low high o l nl nh m = let a = code-root h ih low nl in let b = code-root h ih high nh in record {
       opened = o;
-      lower = l;
+      order = l;
       below = b .1;
-      root-low = a .0;
-      root-high = b .0;
+      low-root = a .0;
+      high-root = b .0;
       asked = asks-crossed (λ c w. w .none-true) (stateIn st) (clauseOf ix g) (clauseOf ix h) (before m) m (rw (opposite-opposite (literalAt low)) nl)
           (ties-opposite (ties-higher (literalAt low) (literalAt high) (omega (arith, var-at low, var-at high))));
     }

@@ -1,19 +1,20 @@
 -- Walks over the literals of a clause: the places, and the two walks at the loop's head, at the start, after a turn and at the end.
 use mathlib.Core.Path.{_≡_}
 use mathlib.Core.Bool.{cond}
-use mathlib.Core.List.{List, [], _∷_}
+use mathlib.Core.List.{List, [], _∷_, List·Memᴰ}
 use Prim.Native.Nat.{ℕ, suc, _+_, _-_, _/_, _<_, _≤_}
 use native.Mathlib.Numerals.{add-one}
 use native.Mathlib.Omega.{arith}
 use lib.Dec.{eqb}
 use lib.ListN.{getD, set, replicate}
-use Rattle.general.specs.Lists.{from}
+use Rattle.general.specs.Lists.{from, mem-from}
 use Rattle.literal.specs.Literal.{var, opposite, codeOf, literalAt, maxVariables, maxTable, codes, variables}
 use Rattle.literal.proofs.Codes.{var-at, var-code}
 use Rattle.theory.specs.Formula.{Clause}
 use Rattle.theory.specs.State.{value, standing}
 use Rattle.occurrences.specs.Index.{Indexed, clauseCount, clauseOf, codeAt, startAt}
 use Rattle.tally.specs.Tally.{tallyOf, stateIn}
+use Rattle.tally.specs.Ring.{Classes}
 use Rattle.theory.proofs.States.{value-variable}
 use Rattle.gather.proofs.Written.{stands-for}
 use Rattle.pairs.specs.Meeting.{Readable, Marked}
@@ -59,19 +60,27 @@ module _ {ix : List ℕ} {g start end i : ℕ} (o : Reads ix g start end i) (mor
   pub code-known : codeAt ix i < codes
   code-known = o .index .known g i (o .inside) (omega (arith, o .begins, o .from-start)) (omega (arith, o .ends)) .1
 
+  pub place-member : List·Memᴰ (literalAt (codeAt ix i)) (clauseOf ix g)
+  place-member =
+      mem-from (λ j. literalAt (codeAt ix j)) (startAt ix g) (startAt ix (g + 1) - 1 - startAt ix g) i (omega (arith, o .begins, o .from-start))
+      (omega (arith, o .begins, o .from-start, o .ends))
+
   pub reads-go : Reads ix g start end (i + 1)
   reads-go = record { index = o .index; inside = o .inside; begins = o .begins; ends = o .ends; from-start = omega (arith, o .from-start); to-end = omega arith }
 
   -- what the literal stands for is of a variable of the array
-  module _ {st : List ℕ} (r : Readable ix st g) where
+  module _ (st : List ℕ) (classes : Classes (tallyOf st .values) (tallyOf st .links)) where
     pub value-inside : var (value (stateIn st) (literalAt (codeAt ix i))) ≤ maxVariables
     value-inside =
         let l = literalAt (codeAt ix i) in
         let b : var l ≤ maxVariables = omega (arith, var-at (codeAt ix i), code-known) in
-        omega (arith, value-variable (stateIn st) l, stands-for (tallyOf st .values) (var l) b, r .classes .range (var l) b)
+        omega (arith, value-variable (stateIn st) l, stands-for (tallyOf st .values) (var l) b, classes .range (var l) b)
 
-    pub value-below : (x : ℕ) → x ≡ codeOf (value (stateIn st) (literalAt (codeAt ix i))) → x < codes
-    value-below x e = omega (arith, value-inside, var-code (value (stateIn st) (literalAt (codeAt ix i))))
+    pub value-low : (x : ℕ) → x ≡ codeOf (value (stateIn st) (literalAt (codeAt ix i))) → x < codes
+    value-low x e = omega (arith, value-inside, var-code (value (stateIn st) (literalAt (codeAt ix i))))
+
+  pub value-below : {st : List ℕ} → Readable ix st g → (x : ℕ) → x ≡ codeOf (value (stateIn st) (literalAt (codeAt ix i))) → x < codes
+  value-below {st} r = value-low st (r .classes)
 
 -- marking ---------------------------------------------------------------------------------------------------------
 
@@ -95,7 +104,7 @@ module _ {ix st : List ℕ} {g start end : ℕ} {marks : List ℕ} {i : ℕ} (o 
     reads = reads-go (o .reads) more;
     marks-so-far =
         marks-go (stateIn st) (clauseOf ix g) (o .readable .wide) (o .readable .distinct) (rw (rest-cons ix i end more) at (o .marks-so-far))
-        (value-inside (o .reads) more (o .readable)) x e;
+        (value-inside (o .reads) more st (o .readable .classes)) x e;
   }
 
   pub mark-ends : end ≤ i → Marked (standing (stateIn st) (clauseOf ix g)) (set marks 0 2)

@@ -1,2 +1,4 @@
 pub mod Meeting
-pub mod Pairing
+pub mod Faces
+pub mod Looking
+pub mod Parts

@@ -1,16 +1,23 @@
-// Rules 7 and 8: the wide clauses that hold a root, two by two. Rule 7 decides at once, which makes no other pair fit; a tie of rule 8 is handed back.
+// Rules 7 and 8: a look at the pairs of a block, each once. Where a rule fits, its step is made at once; what that lets meet is listed by the step.
 ghost use mathlib.Core.Path.{_≡_};
 ghost use mathlib.Core.Bool.{cond};
-ghost use Prim.Native.Nat.{_/_, _<_};
+ghost use mathlib.Core.List.{List};
+ghost use Prim.Native.Nat.{ℕ, _/_, _<_, _≤_};
 ghost use lib.Dec.{eqb};
 ghost use lib.ListN.{getD};
-ghost use Rattle.literal.specs.Literal.{codes};
+ghost use Rattle.literal.specs.Literal.{codes, maxVariables};
 ghost use Rattle.theory.specs.State.{standing};
-ghost use Rattle.occurrences.specs.Index.{clauseOf};
+ghost use Rattle.occurrences.specs.Index.{clauseCount, clauseOf};
 ghost use Rattle.tally.specs.Tally.{stateIn};
+ghost use Rattle.moves.specs.Sound.{Sound};
+ghost use Rattle.moves.specs.Listing.{ListsIn, SpansIn};
 ghost use Rattle.pairs.specs.Meeting.{Readable, Marked, MetBy, Meetable, MetWide};
-ghost use Rattle.pairs.specs.Pairing.{Comparing, Compared, Pairable, Paired};
+ghost use Rattle.pairs.specs.Faces.{Comparing, FacedBy, Sharing, ClearOf};
+ghost use Rattle.pairs.specs.Looking.{Lookable, LookOf};
+ghost use Rattle.pairs.specs.Parts.{Facable, RowOf, VariableOf, Leads, StretchOf};
+use gather::Sign;
 use literal::Literal;
+use notes::Block;
 use notes::Notes;
 use occurrences::Index;
 use tally::Tally;
@@ -28,11 +35,11 @@ enum Met {
     Crossed(u16, u16),
 }
 
-// What a look for a tie found: none, a dead end, or that exactly one of two literals is true, of which the first has the lower variable.
-pub enum Found {
-    Nothing,
-    Dead,
-    Tie(u16, u16),
+// What rules 7 and 8 find first for a clause and those that face it, and at which of these.
+enum Faced {
+    Apart,
+    Common(usize),
+    Crossed(u16, u16, usize),
 }
 
 // The literals of clause g, by variable.
@@ -109,53 +116,149 @@ fn meet_wide(index: &Index, state: &Tally, marks: &Marks, h: usize) -> Met
     meet(index, state, marks, h)
 }
 
-// The first of the earlier gathered clauses that rule 7 or 8 fits together with the k-th.
-fn meet_earlier(index: &Index, state: &Tally, work: &Notes, k: usize) -> Met
-    requires { ⌜ Comparing (now index) (now state) (now work) k ⌝ }
-    ensures { λ r. ⌜ Compared (now (index .entry)) (now (state .entry)) (now (work .entry)) k r ⌝ }
+// The first of the clauses that face clause g, from the from-th on, that rule 7 or 8 fits together with it.
+fn first_met(index: &Index, state: &Tally, work: &Notes, g: usize, from: usize, n: usize) -> Faced
+    requires { ⌜ Comparing (now index) (now state) (now work) g n ⌝ }
+    ensures { λ r. ⌜ FacedBy (now (index .entry)) (now (state .entry)) (now (work .entry)) g from n r ⌝ }
 {
-    let g = notes::gathered_at(work, k) as usize;
-    if gather::wide(tally::count_of(state, g)) == 0 {
-        return Met::Apart;
-    }
     let marks = mark_clause(index, state, g);
-    for j in 0..k {
-        let met = meet_wide(index, state, &marks, notes::gathered_at(work, j) as usize);
+    for i in from..n {
+        let h = notes::gathered_at(work, notes::FACING + i) as usize;
+        let met = meet_wide(index, state, &marks, h);
         match met {
             Met::Apart => {}
-            Met::Common(x) => {
-                return Met::Common(x);
+            Met::Common(_) => {
+                return Faced::Common(i);
             }
             Met::Crossed(low, high) => {
-                return Met::Crossed(low, high);
+                return Faced::Crossed(low, high, i);
             }
         }
     }
-    Met::Apart
+    Faced::Apart
 }
 
-// Rules 7 and 8 for the pairs of wide clauses that hold root r. After a decision the same clause is looked at again.
-pub fn pairs_at(index: &Index, state: &mut Tally, work: &mut Notes, r: u16) -> Found
-    requires { ⌜ Pairable (now index) (now state) (now work) r ⌝ }
-    ensures { λ f. ⌜ Paired (now (index .entry)) (now (state .entry)) (now (work .entry)) r (now (state .exit)) (now (work .exit)) f ⌝ }
+// Rule 7 for clauses g and h: every literal that they have in common becomes false. What crosses stays, so the marks of g serve all along. True is a dead end.
+fn clear_common(index: &Index, state: &mut Tally, work: &mut Notes, g: usize, h: usize) -> bool
+    requires { ⌜ Sound (now index) (now state) (now work) ⌝ }
+    requires { ⌜ Sharing (now index) (now state) g h ⌝ }
+    ensures { λ r. ⌜ ClearOf (now (index .entry)) (now (state .entry)) (now (work .entry)) (now (state .exit)) (now (work .exit)) r ⌝ }
 {
-    let end = gather::gather(index, state, work, r);
-    let mut k = 1;
-    while k < end {
-        let met = meet_earlier(index, state, work, k);
-        match met {
-            Met::Apart => {
-                k += 1;
-            }
-            Met::Common(x) => {
-                if decide::decide(index, state, work, x) {
-                    return Found::Dead;
-                }
-            }
-            Met::Crossed(low, high) => {
-                return Found::Tie(low, high);
+    let marks = mark_clause(index, state, g);
+    let start = occurrences::start_of(index, h);
+    let end = occurrences::end_of(index, h);
+    for i in start..end {
+        let v = tally::value_at(index, state, i);
+        if mark_of(&marks, v) == v {
+            if decide::decide(index, state, work, v) {
+                return true;
             }
         }
     }
-    Found::Nothing
+    false
+}
+
+// Rules 7 and 8 for clause g and the n clauses that face it. After a step the look goes on at the same one, which may still meet g: those before it don't, or
+// are listed by the step. True is a dead end.
+fn meet_facing(index: &Index, state: &mut Tally, work: &mut Notes, g: usize, n: usize) -> bool
+    requires { ⌜ Facable (now index) (now state) (now work) n ⌝ }
+    requires { ⌜ g < clauseCount (now index) ⌝ }
+    ensures { λ r. ⌜ RowOf (now (index .entry)) (now (state .entry)) (now (work .entry)) g n (now (state .exit)) (now (work .exit)) r ⌝ }
+{
+    let mut at = 0;
+    loop {
+        if gather::wide(tally::count_of(state, g)) == 0 {
+            return false;
+        }
+        let faced = first_met(index, state, work, g, at, n);
+        match faced {
+            Faced::Apart => {
+                return false;
+            }
+            Faced::Common(i) => {
+                let h = notes::gathered_at(work, notes::FACING + i) as usize;
+                if clear_common(index, state, work, g, h) {
+                    return true;
+                }
+                at = i;
+            }
+            Faced::Crossed(low, high, j) => {
+                if tie::tie(index, state, work, low, high) {
+                    return true;
+                }
+                at = j;
+            }
+        }
+    }
+}
+
+// Rules 7 and 8 for the clauses in which variable p stands, with such a sign, and the n clauses that face them. True is a dead end.
+fn meet_variable(
+    index: &Index,
+    state: &mut Tally,
+    work: &mut Notes,
+    p: usize,
+    n: usize,
+    sign: Sign,
+) -> bool
+    requires { ⌜ Facable (now index) (now state) (now work) n ⌝ }
+    requires { ⌜ p ≤ maxVariables ⌝ }
+    ensures { λ r. ⌜ VariableOf (now (index .entry)) (now (state .entry)) (now (work .entry)) p sign n (now (state .exit)) (now (work .exit)) r ⌝ }
+{
+    let first = occurrences::first_of(index, p);
+    let last = occurrences::first_of(index, p + 1);
+    for j in first..last {
+        let occurrence = occurrences::occurrence_at(index, j);
+        if gather::signed(occurrence, sign) == 1 {
+            if meet_facing(index, state, work, (occurrence / 2) as usize, n) {
+                return true;
+            }
+        }
+    }
+    false
+}
+
+// The same for the variables from `first` along the links to `last`. A tie changes no link of these but that of the last.
+fn meet_stretch(
+    index: &Index,
+    state: &mut Tally,
+    work: &mut Notes,
+    first: u16,
+    last: u16,
+    n: usize,
+) -> bool
+    requires { ⌜ Facable (now index) (now state) (now work) n ⌝ }
+    requires { ⌜ ((l : List ℕ) × Leads (now state) first last l) ⌝ }
+    ensures { λ r. ⌜ StretchOf (now (index .entry)) (now (state .entry)) (now (work .entry)) first last n (now (state .exit)) (now (work .exit)) r ⌝ }
+{
+    let mut p = first as usize;
+    loop {
+        if meet_variable(index, state, work, p, n, Sign::Either) {
+            return true;
+        }
+        let next = tally::link_of(state, p);
+        if p == last as usize {
+            return false;
+        }
+        p = next as usize;
+    }
+}
+
+// Rules 7 and 8 for the pairs of a block, which is no longer listed. True is a dead end.
+pub fn look(index: &Index, state: &mut Tally, work: &mut Notes, block: Block) -> bool
+    requires { ⌜ Lookable (now index) (now state) (now work) ⌝ }
+    requires { ⌜ SpansIn (now state) block ⌝ }
+    ensures { λ r. ⌜ LookOf (ListsIn (now (state .entry)) block) (now (index .entry)) (now (state .entry)) (now (work .entry)) (now (state .exit)) (now (work .exit)) r ⌝ }
+{
+    let first = block.first;
+    let last = block.last;
+    if last == 0 {
+        let end = gather::gather_variable(index, state, work, first as usize, notes::FACING, Sign::Negative);
+        return meet_variable(index, state, work, first as usize, end - notes::FACING, Sign::Positive);
+    }
+    let end = gather::gather_stretch(index, state, work, block.from, block.to, notes::FACING);
+    if end == notes::FACING {
+        return false;
+    }
+    meet_stretch(index, state, work, first, last, end - notes::FACING)
 }

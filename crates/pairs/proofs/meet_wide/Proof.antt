@@ -1,6 +1,6 @@
 -- `meet_wide` meets its contract.
 use borrow.Author.Needs.{needs}
-use Rattle.pairs.proofs.Earlier.{met-apart, met-readable, met-as}
+use Rattle.pairs.proofs.Widths.{met-apart, met-readable, met-as}
 use Rattle.pairs.proofs.meet_wide.Statement.{statement}
 use Rattle.pairs.proofs.meet_wide.Tie as tie
 
