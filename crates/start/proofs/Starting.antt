@@ -8,7 +8,7 @@ use Rattle.theory.specs.Formula.{Within}
 use Rattle.theory.specs.State.{initial, WellFormed}
 use Rattle.theory.proofs.Propagation.{initial-well, steps-refine}
 use Rattle.theory.proofs.PairsBut.{PairsBut, pairs-weaken}
-use Rattle.theory.proofs.Falls.{falls-steps, falls-opens, falls-pairs}
+use Rattle.theory.proofs.Falls.{still, falls-steps, falls-opens, falls-pairs}
 use Rattle.occurrences.specs.Index.{formulaOf}
 use Rattle.tally.specs.Tally.{tallyOf, stateIn}
 use Rattle.notes.specs.Notes.{notesOf, Noted, Listed}
@@ -30,7 +30,7 @@ module _ {ix st wk : List ℕ} (fresh : Fresh ix st wk) where
   fresh-well = rw (fresh .initially) (initial-well maxVariables)
 
   pub fresh-undoubling : Undoubling ix st wk
-  fresh-undoubling = record { sound = fresh .sound; well = fresh-well }
+  fresh-undoubling = record { sound = fresh .sound; path = rw (fresh .initially) still }
 
   pub fresh-died : Died (formulaOf ix) (stateIn st) → Died (formulaOf ix) initial
   fresh-died d = rw (fresh .initially) at d
