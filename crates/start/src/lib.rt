@@ -13,9 +13,10 @@ ghost use Rattle.tie.specs.Doubling.{DoublesOf};
 ghost use Rattle.start.specs.Opening.{OpenBelow};
 ghost use Rattle.start.specs.Counting.{CountsOf};
 ghost use Rattle.start.specs.Undoubling.{Undoubling, WrittenOnce, UndoubledOf};
-ghost use Rattle.start.specs.Signs.{SignsOf, ListedBelow, Listing};
+ghost use Rattle.start.specs.Signs.{signsBlock, SignsOf, ListedBelow, Listing};
 ghost use Rattle.start.specs.Starting.{StartOf};
 use literal::Literal;
+use notes::Block;
 use notes::Notes;
 use occurrences::Index;
 use tally::Tally;
@@ -147,7 +148,19 @@ fn both_signs(index: &Index, p: usize) -> bool
     false
 }
 
-// Lists variable p for its pairs where they can cross; answers how many are listed then.
+// The pairs of a clause that holds variable p and one that holds its opposite.
+fn signs_block(p: u16) -> Block
+    ensures { λ r. ⌜ r ≡ signsBlock p ⌝ }
+{
+    Block {
+        first: p,
+        last: 0,
+        from: 0,
+        to: 0,
+    }
+}
+
+// Lists variable p for its pairs where they can cross; answers how many blocks are listed then.
 fn list_at(index: &Index, work: &mut Notes, end: usize, p: usize) -> usize
     requires { ⌜ Indexed (now index) ⌝ }
     requires { ⌜ Whole (now work) ⌝ }
@@ -157,7 +170,7 @@ fn list_at(index: &Index, work: &mut Notes, end: usize, p: usize) -> usize
     ensures { λ r. ⌜ Listing (now (index .entry)) (now (work .entry)) (now (work .exit)) r (p + 1) ⌝ }
 {
     if both_signs(index, p) {
-        notes::put_root(work, end, p as u16);
+        notes::put_block(work, end, signs_block(p as u16));
         end + 1
     } else {
         end
