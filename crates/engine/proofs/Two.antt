@@ -27,7 +27,7 @@ use Rattle.tally.proofs.Standing.{count-opens, count-none-true}
 use Rattle.moves.specs.Stepping.{Died}
 use Rattle.engine.specs.Short.{Resting}
 use Rattle.engine.specs.Reading.{Legible, written, rest, Opens, FirstOpen, OpenCode, OpenEntry}
-use Rattle.pairs.specs.Pairing.{Tying}
+use Rattle.tie.specs.Tying.{Tying}
 use Rattle.moves.proofs.Dying.{fallen-dies}
 use Rattle.engine.proofs.Reading.{open-code}
 
@@ -79,10 +79,10 @@ module _ {ix st : List ℕ} {g i : ℕ} (o : Opens ix st g (startAt ix g)) (two 
       List·Memᴰ (literalAt high) (standing (stateIn st) (clauseOf ix g)) → low / 2 < high / 2 → Tying ix st low high
   asked-tie low high cl ch ml mh l = record {
     opened = cl .opened;
-    lower = l;
+    order = l;
     below = ch .below;
-    root-low = cl .root;
-    root-high = ch .root;
+    low-root = cl .root;
+    high-root = ch .root;
     asked = by-one (clauseOf ix g) (mem-formula ix g (o .inside))
         (asks-tie (standing (stateIn st) (clauseOf ix g)) (standing-no-false (stateIn st) (clauseOf ix g)) (literalAt low) (literalAt high) (o .none-true) opens-two ml mh
         (ties-higher (literalAt low) (literalAt high) (omega (arith, var-at low, var-at high))));

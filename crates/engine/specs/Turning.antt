@@ -15,14 +15,13 @@ use Rattle.notes.specs.Notes.{notesOf, Whole}
 use Rattle.moves.specs.Sound.{Sound}
 use Rattle.moves.specs.Moving.{Moved}
 use Rattle.moves.specs.Stepping.{Died}
-use Rattle.pairs.specs.declared.Found.{Found}
-use Rattle.pairs.specs.declared.Found.the-variants.{Nothing, Dead, Tie}
+use Rattle.engine.specs.declared.Found.{Found}
+use Rattle.engine.specs.declared.Found.the-variants.{Nothing, Dead, Tie}
 use Rattle.engine.specs.declared.Next.{Next}
 use Rattle.engine.specs.declared.Next.the-variants.{DeadEnd, From}
 use Rattle.engine.specs.Short.{Unit, Units, Resting}
 use Rattle.engine.specs.Ready.{Ready}
-use Rattle.tie.specs.Tying.{Tied}
-use Rattle.pairs.specs.Pairing.{Tying}
+use Rattle.tie.specs.Tying.{Tying, Tied}
 
 -- rules 2 and 3 in clause g: they no longer fit it
 abbrev pub UnitOf : (ix st wk : List ℕ) → ℕ → (st′ wk′ : List ℕ) → Bool → Type 0
@@ -51,11 +50,11 @@ abbrev pub TieNext : (ix st wk : List ℕ) → ℕ → (st′ wk′ : List ℕ) 
 TieNext ix st wk twos st′ wk′ DeadEnd = Died (formulaOf ix) (stateIn st) × Whole wk′
 TieNext ix st wk twos st′ wk′ (From next) = (next ≡ twos) × Tied ix st wk st′ wk′
 
--- what falls with each turn: listed roots, open roots (a tie lists one), notes and open occurrences (each pays a note)
+-- what falls with each turn: listed blocks, open roots (a tie closes one and lists a block), notes and open occurrences (each pays a note)
 abbrev pub weight : List ℕ → List ℕ → List ℕ → ℕ
 weight ix st wk = notesOf wk .blocksEnd + 2 * roots (tallyOf st .values) maxVariables + (notesOf wk .todoEnd + room ix (tallyOf st .values))
 
--- a clause or a root is listed
+-- a clause or a block is listed
 abbrev pub Left : List ℕ → ℕ → Bool → Type 0
 Left wk twos true = (twos < notesOf wk .todoEnd) ⊎ (0 < notesOf wk .blocksEnd)
 Left wk twos false = (notesOf wk .todoEnd ≤ twos) × (notesOf wk .blocksEnd ≡ 0)

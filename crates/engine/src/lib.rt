@@ -12,13 +12,19 @@ ghost use Rattle.engine.specs.Turning.{UnitOf, Unitable, UnitsOf, TwoOf,
 ghost use Rattle.tie.specs.Tying.{Tieable};
 use notes::Notes;
 use occurrences::Index;
-use pairs::Found;
 use tally::Tally;
 
 // Where the look at clauses with two open literals goes on.
 enum Next {
     DeadEnd,
     From(usize),
+}
+
+// What a look for a tie found: none, a dead end, or that exactly one of two literals is true, of which the first has the lower variable.
+enum Found {
+    Nothing,
+    Dead,
+    Tie(u16, u16),
 }
 
 // The place of the first open literal of clause g, from place `from` on.
@@ -133,7 +139,7 @@ fn look_at_two(index: &Index, state: &mut Tally, work: &mut Notes, twos: usize) 
     }
 }
 
-// Rules 7 and 8 for the pairs of the last listed root, which stays listed until no tie is found.
+// Rules 7 and 8 for the pairs of the last listed block. It goes from the list before: pairs that its steps add are listed anew.
 fn look_at_pairs(index: &Index, state: &mut Tally, work: &mut Notes, twos: usize) -> Next
     requires { ⌜ Ready (now index) (now state) (now work) (notesOf (now work) .todoEnd) twos ⌝ }
     requires { ⌜ twos ≤ notesOf (now work) .todoEnd ⌝ }
@@ -141,20 +147,12 @@ fn look_at_pairs(index: &Index, state: &mut Tally, work: &mut Notes, twos: usize
     ensures { λ next. ⌜ TurnOf (now (index .entry)) (now (state .entry)) (now (work .entry)) twos (now (state .exit)) (now (work .exit)) next ⌝ }
 {
     let end = notes::blocks_end(work) - 1;
-    let r = notes::root_at(work, end);
-    if tally::value_of(state, r as usize) != 2 * r {
-        notes::set_blocks_end(work, end);
-        return Next::From(twos);
+    let block = notes::block_at(work, end);
+    notes::set_blocks_end(work, end);
+    if pairs::look(index, state, work, block) {
+        return Next::DeadEnd;
     }
-    let found = pairs::pairs_at(index, state, work, r);
-    match found {
-        Found::Nothing => {
-            notes::set_blocks_end(work, end);
-            Next::From(twos)
-        }
-        Found::Dead => Next::DeadEnd,
-        Found::Tie(low, high) => make_tie(index, state, work, low, high, twos),
-    }
+    Next::From(twos)
 }
 
 // Whether anything is left to look at.
@@ -167,7 +165,7 @@ fn is_left(work: &Notes, twos: usize) -> bool
     0 < notes::blocks_end(work)
 }
 
-// One look, at a clause with two open literals before the pairs of a root.
+// One look, at a clause with two open literals before the pairs of a block.
 fn turn(index: &Index, state: &mut Tally, work: &mut Notes, twos: usize) -> Next
     requires { ⌜ Ready (now index) (now state) (now work) (notesOf (now work) .todoEnd) twos ⌝ }
     requires { ⌜ twos ≤ notesOf (now work) .todoEnd ⌝ }

@@ -29,7 +29,6 @@ tallied-sound t w e r = record {
   todo-room = omega (arith, t .room);
   blocks-room = omega (arith, t .roots);
   todo-inside = λ i h. absurd (omega arith);
-  roots-inside = λ i h. absurd (omega arith);
 }
 
 module _ {ix st wk : List ℕ} {x : ℕ} (k : Siding ix st wk x) where
@@ -62,5 +61,5 @@ module _ {ix st wk : List ℕ} {x : ℕ} (k : Siding ix st wk x) where
   siding-begun wk′ st″ wk″ w e r false d =
       let c = k .calm in (
         d .0,
-        ready-decided (tallied-sound (c .tallied) w e r) (c .counted) (k .well) (c .distinct) (c .pairs) (k .opened) (d .0) (d .1) (rw (d .0) (assign-well (k .well) valid)),
+        ready-decided (tallied-sound (c .tallied) w e r) (c .counted) r (k .well) (c .distinct) (c .pairs) (k .opened) (d .0) (d .1) (rw (d .0) (assign-well (k .well) valid)),
       )

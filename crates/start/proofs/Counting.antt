@@ -104,7 +104,6 @@ module _ {ix : List ℕ} (st : List ℕ) {w : Notes} {end : ℕ} (index : Indexe
       todo-room = omega (arith, ends, c .few, index .few, room-few index (tallyOf st .values));
       blocks-room = omega (arith, none, roots-few (tallyOf st .values) maxVariables);
       todo-inside = λ i h. rw todo (c .inside i (omega (arith, ends)));
-      roots-inside = λ i h. absurd (omega (arith, none));
     };
     short = record {
       units = record {

@@ -1,26 +1,21 @@
 -- Two clauses of a table cross by a variable that occurs with both signs; the list of those.
 use mathlib.Core.Path.{_≡_, refl, ap, sym, subst, _∙_}
-use mathlib.Core.Logic.{inr, _≢_}
+use mathlib.Core.Logic.{_≢_}
 use mathlib.Core.List.{List, List·Memᴰ}
 use Prim.Native.Nat.{ℕ, _+_, _*_, _%_, _≤_, _<_}
 use native.Mathlib.Decide.{decLt, ℕ-discrete as decEq}
 use native.Mathlib.Omega.{arith}
-use lib.ListN.{getD, set, length, length-take, length-drop}
-use lib.Seq.{getD-set-same, getD-set-other}
-use Rattle.literal.specs.declared.Literal.{Literal}
+use lib.ListN.{length}
 use Rattle.literal.specs.declared.Literal.the-variants.{Pos, Neg}
-use Rattle.literal.specs.Literal.{var, opposite, literalAt, maxVariables}
+use Rattle.literal.specs.Literal.{literalAt, maxVariables}
 use Rattle.literal.proofs.Codes.{literalAt-codeOf}
-use Rattle.theory.specs.State.{initial}
-use Rattle.theory.proofs.PairsBut.{PairsBut}
+use Rattle.theory.specs.Formula.{Clause}
 use Rattle.occurrences.specs.Index.{Indexed, clauseCount, clauseOf, formulaOf, firstAt, occurrenceAt}
-use Rattle.occurrences.proofs.Formulas.{before-index}
-use Rattle.general.specs.Lists.{before-left}
-use Rattle.notes.specs.Notes.{Notes, notesOf, withRoot, withBlocksEnd, Whole, maxBlocks}
+use Rattle.occurrences.proofs.Formulas.{formula-mem}
+use Rattle.notes.specs.Notes.{Notes, notesOf, blockAt, withBlock, withBlocksEnd, Whole, maxBlocks}
+use Rattle.notes.proofs.Blocks.{blocks-long, block-there, block-kept}
 use Rattle.gather.proofs.Placed.{literal-placed}
-use Rattle.engine.proofs.Along.{within-indexed}
-use Rattle.start.specs.Signs.{Signed, BothSigns, ListedBelow, Listing}
-use Rattle.start.proofs.Initial.{standing-initial}
+use Rattle.start.specs.Signs.{Signed, BothSigns, signsBlock, ListedBelow, Listing}
 
 -- two occurrences of different signs, and none
 module _ (ix : List ℕ) (p : ℕ) where
@@ -45,27 +40,14 @@ module _ {ix : List ℕ} (index : Indexed ix) where
   signed-minus : (p g : ℕ) → p ≤ maxVariables → g < clauseCount ix → List·Memᴰ (Neg p) (clauseOf ix g) → Signed ix p 1
   signed-minus p g h i m = written-signed p g 1 h i (omega arith) (rw (literalAt-codeOf (Neg p)) m)
 
-  crossing : (b : Literal) (g h : ℕ) → g < clauseCount ix → h < clauseCount ix → var b ≤ maxVariables → List·Memᴰ b (clauseOf ix g) → List·Memᴰ (opposite b) (clauseOf ix h) →
-      BothSigns ix (var b)
-  crossing (Pos p) g h i j l m n = record { plus = signed-plus p g l i m; minus = signed-minus p h l j n }
-  crossing (Neg p) g h i j l m n = record { plus = signed-plus p h l j n; minus = signed-minus p g l i m }
-
-  -- so every pair that crosses at the start does so by such a variable
-  pub pairs-initial : PairsBut (λ p. (0 < p) × (p ≤ maxVariables) × BothSigns ix p) (formulaOf ix) initial
-  pairs-initial = record {
-    by = λ c d before a b m.
-        let i = before-index ix before in
-        let in-c : List·Memᴰ b c = standing-initial c b (m .crossing) in
-        let in-d : List·Memᴰ (opposite b) d = standing-initial d (opposite b) (m .crossed-by) in
-        let within = within-indexed index in
-        let high : var b ≤ maxVariables = within .high c b (before-left before) in-c in
-        inr (within .low c b (before-left before) in-c, high, crossing b (i .0) (i .1) (omega (arith, i .2, i .3)) (i .3) high (rw (i .4) at in-c) (rw (i .5) at in-d));
-  }
+  -- so where two clauses cross at the start they do by a variable with both signs
+  pub signs-both : {g h : Clause} → List·Memᴰ g (formulaOf ix) → List·Memᴰ h (formulaOf ix) → (p : ℕ) → p ≤ maxVariables → List·Memᴰ (Pos p) g → List·Memᴰ (Neg p) h → BothSigns ix p
+  signs-both mg mh p low ig ih =
+      let g = formula-mem ix mg in
+      let h = formula-mem ix mh in
+      record { plus = signed-plus p (g .0) low (g .1) (rw (g .2) at ig); minus = signed-minus p (h .0) low (h .1) (rw (h .2) at ih) }
 
 -- the list -----------------------------------------------------------------------------------------------------------
-
-roots-long : {wk : List ℕ} → Whole wk → length (notesOf wk .roots) ≡ maxBlocks
-roots-long {wk} h = simp (length-take, length-drop) (omega (arith, h .long))
 
 pub listed-begins : {ix : List ℕ} (w : Notes) → ListedBelow ix (withBlocksEnd 0 w) 1
 listed-begins w = record {
@@ -82,41 +64,41 @@ module _ {ix : List ℕ} (w : Notes) {end n : ℕ} (b : ListedBelow ix (withBloc
       | yes e ↦ absurd (unlike (rw e at s))
       | no e ↦ b .listed p o (omega arith) s
     ];
-    inside = λ i h. let k = b .inside i h in (k .0, omega (arith, k .1));
+    inside = λ i h. let k = b .inside i h in (k .0, omega (arith, k .1), k .2);
     few = omega (arith, b .few);
   }
 
-  listed-goes : 0 < n → n ≤ maxVariables → length (w .roots) ≡ maxBlocks → ListedBelow ix (withBlocksEnd (end + 1) (withRoot end n w)) (n + 1)
-  listed-goes o low long = record {
+  listed-goes : n ≤ maxVariables → length (w .blocks) ≡ 4 * maxBlocks → ListedBelow ix (withBlocksEnd (end + 1) (withBlock end (signsBlock n) w)) (n + 1)
+  listed-goes low long = record {
     listed = λ p q h s. elim (decEq p n) [
-      | yes e ↦ (end, omega arith, last ∙ sym e)
+      | yes e ↦ (end, omega arith, last ∙ ap signsBlock (sym e))
       | no e ↦ let k = b .listed p q (omega arith) s in (k .0, omega (arith, k .1), kept (k .0) (k .1) ∙ k .2)
     ];
     inside = λ i h. elim (decLt i end) [
-      | yes l ↦ let k = b .inside i l in rw (kept i l) (k .0, omega (arith, k .1))
-      | no l ↦ let e : i ≡ end = omega arith in rw (e, last) (o, omega arith)
+      | yes l ↦ let k = b .inside i l in (k .0, omega (arith, k .1), kept i l ∙ k .2)
+      | no l ↦ (n, omega arith, let e : i ≡ end = omega arith in rw e last)
     ];
     few = omega (arith, b .few);
   }
     where
-      kept : (i : ℕ) → i < end → getD (set (w .roots) end n) i 0 ≡ getD (w .roots) i 0
-      kept i h = getD-set-other (w .roots) end i n 0 (λ q. omega arith)
+      kept : (i : ℕ) → i < end → blockAt (withBlock end (signsBlock n) w) i ≡ blockAt w i
+      kept i h = block-kept w end (signsBlock n) i (λ q. omega arith)
 
-      last : getD (set (w .roots) end n) end 0 ≡ n
-      last = getD-set-same (w .roots) end n 0 (omega (arith, b .few))
+      last : blockAt (withBlock end (signsBlock n) w) end ≡ signsBlock n
+      last = block-there w end (signsBlock n) (omega (arith, b .few))
 
 -- no turn changes what is noted
 module _ {ix : List ℕ} where
   pub listing-none : {wk : List ℕ} {end n : ℕ} → Whole wk → ListedBelow ix (withBlocksEnd end (notesOf wk)) n → Listing ix wk wk end n
   listing-none w b = record { whole = w; todo = refl; todoEnd = refl; below = b }
 
-  pub listing-one : {wk wk′ : List ℕ} {end n : ℕ} → Whole wk → 0 < n → n ≤ maxVariables → ListedBelow ix (withBlocksEnd end (notesOf wk)) n → Whole wk′ →
-      notesOf wk′ ≡ withRoot end n (notesOf wk) → Listing ix wk wk′ (end + 1) (n + 1)
-  listing-one {wk} {end = end} {n = n} w o h b w′ e = record {
+  pub listing-one : {wk wk′ : List ℕ} {end n : ℕ} → Whole wk → n ≤ maxVariables → ListedBelow ix (withBlocksEnd end (notesOf wk)) n → Whole wk′ →
+      notesOf wk′ ≡ withBlock end (signsBlock n) (notesOf wk) → Listing ix wk wk′ (end + 1) (n + 1)
+  listing-one {wk} {end = end} {n = n} w h b w′ e = record {
     whole = w′;
     todo = ap (λ (k : Notes). k .todo) e;
     todoEnd = ap (λ (k : Notes). k .todoEnd) e;
-    below = subst (λ (k : Notes). ListedBelow ix (withBlocksEnd (end + 1) k) (n + 1)) (sym e) (listed-goes (notesOf wk) b o h (roots-long w));
+    below = subst (λ (k : Notes). ListedBelow ix (withBlocksEnd (end + 1) k) (n + 1)) (sym e) (listed-goes (notesOf wk) b h (blocks-long w));
   }
 
   pub listing-goes : {wk wk′ wk″ : List ℕ} {end n more m : ℕ} → Listing ix wk wk′ end n → Listing ix wk′ wk″ more m → Listing ix wk wk″ more m

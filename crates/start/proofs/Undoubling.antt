@@ -1,9 +1,9 @@
--- Rules 4 and 5 for each variable in turn: one that is decided stands nowhere.
+-- Rules 4 and 5 for each variable in turn: one that is decided stands nowhere, and none stands more often than it is written.
 use mathlib.Core.Path.{_≡_, ap, sym, _∙_}
 use mathlib.Core.Bool.{false}
 use mathlib.Core.Logic.{_≢_}
 use mathlib.Core.List.{List, List·Memᴰ}
-use Prim.Native.Nat.{ℕ, _+_, _*_, _≤_}
+use Prim.Native.Nat.{ℕ, _+_, _*_, _<_, _≤_}
 use native.Mathlib.Decide.{decLt}
 use native.Mathlib.Omega.{arith}
 use Rattle.literal.specs.declared.Literal.the-variants.{Pos}
@@ -15,7 +15,8 @@ use Rattle.theory.proofs.States.{fixed-pos}
 use Rattle.theory.proofs.Asks.{standing-fixed, standing-inside}
 use Rattle.theory.proofs.Counts.{mentions, Wide, Holds, mentions-holds}
 use Rattle.theory.proofs.DistinctBut.{DistinctBut, distinct-weaken, distinct-looked}
-use Rattle.theory.proofs.Falls.{Falls, still, falls-trans, falls-well, falls-distinct}
+use Rattle.theory.proofs.Propagation.{initial-well}
+use Rattle.theory.proofs.Falls.{Falls, still, falls-trans, falls-well, falls-mentions, falls-distinct}
 use Rattle.state.proofs.Values.{stateOf-inside}
 use Rattle.occurrences.specs.Index.{formulaOf, clauseOf}
 use Rattle.occurrences.proofs.Formulas.{formula-mem}
@@ -25,7 +26,11 @@ use Rattle.moves.specs.Moving.{Went}
 use Rattle.moves.proofs.Moves.{went-refl, went-trans}
 use Rattle.engine.proofs.Along.{within-indexed}
 use Rattle.tie.specs.Doubling.{OnceIn, DoublesOf}
-use Rattle.start.specs.Undoubling.{Undoubling, UndoubledBelow}
+use Rattle.start.specs.Undoubling.{Undoubling, WrittenOnce, UndoubledBelow}
+use Rattle.start.proofs.Initial.{mentions-initial}
+
+undoubling-well : {ix st wk : List ℕ} → Undoubling ix st wk → WellFormed maxVariables (stateIn st)
+undoubling-well u = falls-well (within-indexed (u .sound .index)) (initial-well maxVariables) (u .path)
 
 -- a variable that is no open root stands nowhere
 closed-once : {ix st wk : List ℕ} → Undoubling ix st wk → (p : ℕ) → p ≤ maxVariables → valueIn st p ≢ 2 * p → OnceIn ix st p
@@ -36,25 +41,27 @@ closed-once {ix} {st} u p h n g i w = elim (decLt 0 (mentions p (standing (state
   where
     root : Holds p (standing (stateIn st) (clauseOf ix g)) → valueIn st p ≡ 2 * p
     root (l, m, e) =
-        let s : stateIn st p ≡ Pos p = rw e at (fixed-pos (stateIn st) l (standing-fixed (within-indexed (u .sound .index)) (u .well) (clauseOf ix g) l m)) in
+        let s : stateIn st p ≡ Pos p = rw e at (fixed-pos (stateIn st) l (standing-fixed (within-indexed (u .sound .index)) (undoubling-well u) (clauseOf ix g) l m)) in
         sym (codeOf-literalAt (valueIn st p)) ∙ ap codeOf (sym (stateOf-inside (tallyOf st .values) p h) ∙ s)
 
 pub closed-doubles : {ix st wk : List ℕ} → Undoubling ix st wk → (p : ℕ) → p ≤ maxVariables → valueIn st p ≢ 2 * p → DoublesOf ix st wk p st wk false
 closed-doubles u p h n = (still, went-refl (u .sound), closed-once u p h n)
 
+-- one that is written at most once in each clause stands at most once
+pub written-doubles : {ix st wk : List ℕ} → Undoubling ix st wk → (p : ℕ) → 0 < p → WrittenOnce ix p → DoublesOf ix st wk p st wk false
+written-doubles {ix} u p o h =
+    (still, went-refl (u .sound), λ g b w. omega (arith, falls-mentions (u .path) (clauseOf ix g) p o, mentions-initial p (clauseOf ix g), h g b))
+
 pub undoubled-begins : {ix st wk : List ℕ} → Sound ix st wk → UndoubledBelow ix st wk st wk 1
 undoubled-begins s = record { path = still; went = went-refl s; distinct = record { by = λ c m w p o h. o } }
 
 module _ {ix st wk : List ℕ} (u : Undoubling ix st wk) where
-  within : Within maxVariables (formulaOf ix)
-  within = within-indexed (u .sound .index)
-
   module _ {st′ wk′ : List ℕ} {n : ℕ} (b : UndoubledBelow ix st wk st′ wk′ n) where
-    pub undoubled-well : WellFormed maxVariables (stateIn st′)
-    undoubled-well = falls-well within (u .well) (b .path)
-
     pub undoubled-on : Undoubling ix st′ wk′
-    undoubled-on = record { sound = b .went .sound; well = undoubled-well }
+    undoubled-on = record { sound = b .went .sound; path = falls-trans (u .path) (b .path) }
+
+    pub undoubled-well : WellFormed maxVariables (stateIn st′)
+    undoubled-well = undoubling-well undoubled-on
 
     pub undoubled-goes : {st″ wk″ : List ℕ} → Falls (formulaOf ix) (stateIn st′) (stateIn st″) → Went ix st′ wk′ st″ wk″ → OnceIn ix st″ n →
         UndoubledBelow ix st wk st″ wk″ (n + 1)

@@ -3,9 +3,9 @@ use mathlib.Core.Path.{_≡_}
 use mathlib.Core.Bool.{Bool, true, false}
 use mathlib.Core.List.{List}
 use Prim.Native.Nat.{ℕ, _+_, _%_, _≤_, _<_}
-use lib.ListN.{getD}
 use Rattle.occurrences.specs.Index.{firstAt, occurrenceAt}
-use Rattle.notes.specs.Notes.{Notes, notesOf, withBlocksEnd, Listed, Whole}
+use Rattle.notes.specs.declared.Block.{Block}
+use Rattle.notes.specs.Notes.{Notes, notesOf, blockAt, withBlocksEnd, Whole}
 
 -- variable p has an occurrence of this sign
 abbrev pub Signed : (ix : List ℕ) → ℕ → ℕ → Type 0
@@ -19,10 +19,14 @@ abbrev pub SignsOf : (ix : List ℕ) → ℕ → Bool → Type 0
 SignsOf ix p true = BothSigns ix p
 SignsOf ix p false = ¬ BothSigns ix p
 
--- the variables below n with both signs are listed, in a list of variables below n
+-- the pairs of a clause that holds variable p and one that holds its opposite
+abbrev pub signsBlock : ℕ → Block
+signsBlock p = record { first = p; last = 0; from = 0; to = 0 }
+
+-- the variables below n with both signs are listed, in a list of such blocks
 pub record ListedBelow (ix : List ℕ) (w : Notes) (n : ℕ) : Type 0 where
-  pub listed : (p : ℕ) → 0 < p → p < n → BothSigns ix p → Listed w p
-  pub inside : (i : ℕ) → i < w .blocksEnd → (0 < getD (w .roots) i 0) × (getD (w .roots) i 0 < n)
+  pub listed : (p : ℕ) → 0 < p → p < n → BothSigns ix p → (i : ℕ) × (i < w .blocksEnd) × (blockAt w i ≡ signsBlock p)
+  pub inside : (i : ℕ) → i < w .blocksEnd → (p : ℕ) × (p < n) × (blockAt w i ≡ signsBlock p)
   pub few : w .blocksEnd < n
 
 -- of which there are `end`, and the notes are as they were

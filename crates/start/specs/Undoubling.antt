@@ -1,12 +1,13 @@
 -- Rules 4 and 5 for each variable in turn.
 use mathlib.Core.Bool.{Bool, true, false}
 use mathlib.Core.List.{List}
-use Prim.Native.Nat.{ℕ, _+_, _≤_}
+use Prim.Native.Nat.{ℕ, _+_, _≤_, _<_}
 use Rattle.literal.specs.Literal.{maxVariables}
-use Rattle.theory.specs.State.{WellFormed}
+use Rattle.theory.specs.State.{initial}
+use Rattle.theory.proofs.Counts.{mentions}
 use Rattle.theory.proofs.DistinctBut.{DistinctBut}
 use Rattle.theory.proofs.Falls.{Falls}
-use Rattle.occurrences.specs.Index.{formulaOf}
+use Rattle.occurrences.specs.Index.{clauseCount, clauseOf, formulaOf}
 use Rattle.tally.specs.Tally.{stateIn}
 use Rattle.notes.specs.Notes.{Whole}
 use Rattle.moves.specs.Sound.{Sound}
@@ -16,7 +17,11 @@ use Rattle.moves.specs.Stepping.{Died}
 -- what rules 4 and 5 are tried in
 pub record Undoubling (ix st wk : List ℕ) : Type 0 where
   pub sound : Sound ix st wk
-  pub well : WellFormed maxVariables (stateIn st)
+  pub path : Falls (formulaOf ix) initial (stateIn st)
+
+-- variable p stands at most once in each clause as it is written
+abbrev pub WrittenOnce : (ix : List ℕ) → ℕ → Type 0
+WrittenOnce ix p = (g : ℕ) → g < clauseCount ix → mentions p (clauseOf ix g) ≤ 1
 
 -- the variables below n stand at most once in each wide clause
 pub record UndoubledBelow (ix st wk st′ wk′ : List ℕ) (n : ℕ) : Type 0 where

@@ -1,5 +1,6 @@
 // The start of a search: everything is open, and what a rule may fit is noted.
 ghost use mathlib.Core.Path.{_≡_};
+ghost use mathlib.Core.Bool.{false};
 ghost use Prim.Native.Nat.{_+_, _%_, _<_, _≤_};
 ghost use lib.Dec.{ltb};
 ghost use lib.ListN.{length};
@@ -11,10 +12,11 @@ ghost use Rattle.notes.specs.Notes.{notesOf, withBlocksEnd, Whole};
 ghost use Rattle.tie.specs.Doubling.{DoublesOf};
 ghost use Rattle.start.specs.Opening.{OpenBelow};
 ghost use Rattle.start.specs.Counting.{CountsOf};
-ghost use Rattle.start.specs.Undoubling.{Undoubling, UndoubledOf};
-ghost use Rattle.start.specs.Signs.{SignsOf, ListedBelow, Listing};
+ghost use Rattle.start.specs.Undoubling.{Undoubling, WrittenOnce, UndoubledOf};
+ghost use Rattle.start.specs.Signs.{signsBlock, SignsOf, ListedBelow, Listing};
 ghost use Rattle.start.specs.Starting.{StartOf};
 use literal::Literal;
+use notes::Block;
 use notes::Notes;
 use occurrences::Index;
 use tally::Tally;
@@ -72,13 +74,36 @@ fn count_all(index: &Index, state: &mut Tally, work: &mut Notes) -> bool
     false
 }
 
-// Rules 4 and 5 for variable r, unless it was decided meanwhile.
+// Whether variable p stands twice in a clause: not where each of its occurrences is in a later clause than the one before.
+// They go by clause, but nothing rests on that: a true too many costs only time.
+fn repeats(index: &Index, p: usize) -> bool
+    requires { ⌜ Indexed (now index) ⌝ }
+    requires { ⌜ p ≤ maxVariables ⌝ }
+    ensures { λ r. ⌜ (r ≡ false → WrittenOnce (now (index .entry)) p) ⌝ }
+{
+    let first = occurrences::first_of(index, p);
+    let last = occurrences::first_of(index, p + 1);
+    let mut next = 0;
+    for j in first..last {
+        let g = occurrences::occurrence_at(index, j) / 2;
+        if g < next {
+            return true;
+        }
+        next = g + 1;
+    }
+    false
+}
+
+// Rules 4 and 5 for variable r where it stands twice in a clause, unless it was decided meanwhile.
 fn undouble_at(index: &Index, state: &mut Tally, work: &mut Notes, r: u16) -> bool
     requires { ⌜ Undoubling (now index) (now state) (now work) ⌝ }
     requires { ⌜ 0 < r ⌝ }
     requires { ⌜ r ≤ maxVariables ⌝ }
     ensures { λ b. ⌜ DoublesOf (now (index .entry)) (now (state .entry)) (now (work .entry)) r (now (state .exit)) (now (work .exit)) b ⌝ }
 {
+    if !repeats(index, r as usize) {
+        return false;
+    }
     if tally::value_of(state, r as usize) == 2 * r {
         tie::doubles_at(index, state, work, r)
     } else {
@@ -123,7 +148,19 @@ fn both_signs(index: &Index, p: usize) -> bool
     false
 }
 
-// Lists variable p for its pairs where they can cross; answers how many are listed then.
+// The pairs of a clause that holds variable p and one that holds its opposite.
+fn signs_block(p: u16) -> Block
+    ensures { λ r. ⌜ r ≡ signsBlock p ⌝ }
+{
+    Block {
+        first: p,
+        last: 0,
+        from: 0,
+        to: 0,
+    }
+}
+
+// Lists variable p for its pairs where they can cross; answers how many blocks are listed then.
 fn list_at(index: &Index, work: &mut Notes, end: usize, p: usize) -> usize
     requires { ⌜ Indexed (now index) ⌝ }
     requires { ⌜ Whole (now work) ⌝ }
@@ -133,7 +170,7 @@ fn list_at(index: &Index, work: &mut Notes, end: usize, p: usize) -> usize
     ensures { λ r. ⌜ Listing (now (index .entry)) (now (work .entry)) (now (work .exit)) r (p + 1) ⌝ }
 {
     if both_signs(index, p) {
-        notes::put_root(work, end, p as u16);
+        notes::put_block(work, end, signs_block(p as u16));
         end + 1
     } else {
         end

@@ -1,5 +1,5 @@
 -- Rules 4 and 5 in the gathered clauses one by one: what holds at the loop's head, at the start, after a turn, at a dead end and at the end; and in all clauses.
-use mathlib.Core.Path.{_≡_, refl, ap, _∙_}
+use mathlib.Core.Path.{_≡_, refl, ap, sym, subst, _∙_}
 use mathlib.Core.Bool.{Bool, true, false}
 use mathlib.Core.List.{List}
 use Prim.Native.Nat.{ℕ, _+_, _≤_, _<_}
@@ -38,7 +38,7 @@ module _ {ix st wk : List ℕ} {n r : ℕ} (d : DoublingAll ix st wk n r) where
 
   module _ {st′ wk′ : List ℕ} {i : ℕ} (w : Along ix st wk n r st′ wk′ i) where
     pub along-ends : n ≤ i → UndoubledAll ix st wk n r st′ wk′ false
-    along-ends h = record { fell = (w .path, w .moved); once = λ e g m. let k = w .once (m .0) (omega (arith, m .1)) in rw (m .2) at k }
+    along-ends h = record { fell = (w .path, w .moved); once = λ e g m. let k = w .once (m .0) (omega (arith, m .2)) in rw (m .3) at k }
 
     module _ (h : i < n) (g : ℕ) (is : g ≡ getD (notesOf wk′ .gathered) i 0) where
       it : g ≡ getD (notesOf wk .gathered) i 0
@@ -57,7 +57,7 @@ module _ {ix st wk : List ℕ} {n r : ℕ} (d : DoublingAll ix st wk n r) where
           path = falls-trans (w .path) (u .fell .0);
           moved = moved-trans (w .moved) (u .fell .1);
           once = λ j b. elim (decEq j i) [
-            | yes e ↦ let k = u .once refl in rw (e, ← it) k
+            | yes e ↦ subst (Once ix st″ r) (it ∙ ap (λ (i : ℕ). getD (notesOf wk .gathered) i 0) (sym e)) (u .once refl)
             | no e ↦ once-falls (u .fell .0) r (d .positive) (clauseOf ix (getD (notesOf wk .gathered) j 0)) (w .once j (omega arith))
           ];
         }

@@ -1,10 +1,10 @@
 -- A tie, from what is gathered before it to rules 4 and 5 after it: what each call asks, and what all of them leave.
-use mathlib.Core.Path.{_≡_, refl, ap, sym, _∙_}
+use mathlib.Core.Path.{_≡_, refl, ap, sym, subst, _∙_}
 use mathlib.Core.Bool.{Bool, true, false}
 use mathlib.Core.Logic.{_⊎_, inl, inr, _≢_, ⊎-elim}
 use mathlib.Core.List.{List, List·Memᴰ}
 use Prim.Native.Nat.{ℕ, suc, _/_, _≤_, _<_}
-use native.Mathlib.Decide.{decLe}
+use native.Mathlib.Decide.{decLe, decLt}
 use native.Mathlib.Omega.{arith}
 use lib.ListN.{getD, length}
 use Rattle.literal.specs.declared.Literal.{Literal}
@@ -14,26 +14,30 @@ use Rattle.theory.specs.Formula.{Clause}
 use Rattle.theory.specs.State.{assign, standing}
 use Rattle.theory.proofs.Literals.{var-opposite}
 use Rattle.theory.proofs.Propagation.{none-left, one-more}
-use Rattle.theory.proofs.Counts.{mentions, Wide}
+use Rattle.theory.proofs.Counts.{mentions, Wide, holds-mentions}
 use Rattle.theory.proofs.Recounts.{opens-tied, trues-tied, wide-before}
-use Rattle.theory.proofs.PairsBut.{PairsBut, pairs-weaken, pairs-tied}
+use Rattle.theory.proofs.Paired.{Adds, adds-by, adds-any, adds-still}
 use Rattle.theory.proofs.DistinctBut.{distinct-weaken, distinct-tied, distinct-looked, distinct-joined}
-use Rattle.theory.proofs.Falls.{Falls, falls-steps, falls-wide, falls-mentions, falls-pairs, falls-distinct}
+use Rattle.theory.proofs.Falls.{Falls, falls-steps, falls-wide, falls-mentions, falls-adds, falls-distinct}
 use Rattle.occurrences.specs.Index.{clauseCount, clauseOf, formulaOf, width}
 use Rattle.occurrences.proofs.Formulas.{formula-mem}
 use Rattle.tally.specs.Tally.{tallyOf, stateIn, countIn}
 use Rattle.tally.specs.Counts.{truesOf, opensOf, Exact}
 use Rattle.tally.proofs.Standing.{opens-standing, trues-standing}
-use Rattle.notes.specs.Notes.{notesOf, Listed, Gathered, maxBlocks}
+use Rattle.notes.specs.declared.Block.{Block}
+use Rattle.notes.specs.Notes.{notesOf, blockAt, Gathered, maxBlocks}
 use Rattle.moves.specs.Sound.{Sound}
 use Rattle.moves.specs.Moving.{Noting, Moved}
+use Rattle.moves.specs.Listing.{ListsIn, Listed, SpansIn, Blocks, Carried}
 use Rattle.moves.proofs.Moves.{noting-trans}
 use Rattle.moves.proofs.Dying.{died-after}
+use Rattle.moves.proofs.Listed.{carried-trans, carried-fell, blocks-fell, spans-carried, listed-carried}
 use Rattle.gather.specs.Gathering.{Gathering}
 use Rattle.tie.specs.Turning.{Turnable, Joined}
-use Rattle.tie.specs.Listing.{Pushed}
+use Rattle.tie.specs.Listing.{blockBetween, ListedBy}
 use Rattle.tie.specs.Doubling.{Once, DoublingAll, UndoubledAll}
 use Rattle.tie.specs.Tying.{Tieable, Tied, TieOf}
+use Rattle.tie.proofs.Between.{joined-followed, joined-arcs, joined-lists, joined-unheld}
 
 module _ {ix st wk : List ℕ} {low high : ℕ} (d : Tieable ix st wk low high) where
   s : Sound ix st wk
@@ -48,18 +52,18 @@ module _ {ix st wk : List ℕ} {low high : ℕ} (d : Tieable ix st wk low high) 
 
   opened-x : 0 < var x
   unfolding x
-  opened-x = omega (arith, var-at high, d .order)
+  opened-x = omega (arith, var-at high, d .tying .order)
 
   var-t : var t ≡ low / 2
   unfolding t
   var-t = var-opposite (literalAt low) ∙ var-at low
 
   opened-t : 0 < var t
-  opened-t = omega (arith, var-t, d .opened)
+  opened-t = omega (arith, var-t, d .tying .opened)
 
   apart : var t ≢ var x
   unfolding x
-  apart e = omega (arith, var-t, var-at high, d .order)
+  apart e = omega (arith, var-t, var-at high, d .tying .order)
 
   module _ (y : ℕ) (is : y ≡ codeOf (opposite (literalAt low))) where
     literal-y : literalAt y ≡ t
@@ -74,11 +78,11 @@ module _ {ix st wk : List ℕ} {low high : ℕ} (d : Tieable ix st wk low high) 
       classes = s .classes;
       long = s .exact .long-values;
       linked = s .linked;
-      opened = omega (arith, half, d .opened);
-      lower = omega (arith, half, d .order);
-      below = d .below;
-      root = d .high-root;
-      root-t = rw half (d .low-root);
+      opened = omega (arith, half, d .tying .opened);
+      lower = omega (arith, half, d .tying .order);
+      below = d .tying .below;
+      root = d .tying .high-root;
+      root-t = rw half (d .tying .low-root);
     }
 
     module _ (st₁ : List ℕ) (j : Joined (tallyOf st) high y (tallyOf st₁)) where
@@ -108,7 +112,7 @@ module _ {ix st wk : List ℕ} {low high : ℕ} (d : Tieable ix st wk low high) 
         pub tying-room : notesOf wk₁ .blocksEnd < maxBlocks
         tying-room = omega (arith, k .beside .blocksEnd, s .blocks-room, j .fewer)
 
-        module _ {wk₂ : List ℕ} (p : Pushed wk₁ (low / 2) wk₂) where
+        module _ {wk₂ : List ℕ} (p : ListedBy wk₁ n (blockBetween st (high / 2) (low / 2)) wk₂) where
           same-todo-end : notesOf wk₂ .todoEnd ≡ notesOf wk .todoEnd
           same-todo-end = p .todoEnd ∙ k .beside .todoEnd
 
@@ -125,10 +129,6 @@ module _ {ix st wk : List ℕ} {low high : ℕ} (d : Tieable ix st wk low high) 
             todo-room = omega (arith, same-todo-end, j .loads (width ix) variables, s .todo-room);
             blocks-room = omega (arith, p .one, k .beside .blocksEnd, j .fewer, s .blocks-room);
             todo-inside = λ i h. rw same-todo (s .todo-inside i (omega (arith, same-todo-end)));
-            roots-inside = λ i h. ⊎-elim
-                (λ b. rw (p .kept i b, k .beside .roots) (s .roots-inside i (omega (arith, k .beside .blocksEnd))))
-                (λ e. rw e ((omega (arith, d .opened)), omega (arith, d .order, d .below)))
-                (p .only i h);
           }
 
           pub tying-all : DoublingAll ix st₁ wk₂ n (low / 2)
@@ -136,8 +136,8 @@ module _ {ix st wk : List ℕ} {low high : ℕ} (d : Tieable ix st wk low high) 
             sound = sound;
             few = k .few;
             clauses = λ i h. rw (p .gathered) (k .inside i h);
-            positive = omega (arith, d .opened);
-            inside = omega (arith, d .order, d .below);
+            positive = omega (arith, d .tying .opened);
+            inside = omega (arith, d .tying .order, d .tying .below);
           }
 
           noting : Noting ix st wk st₁ wk₂
@@ -150,19 +150,49 @@ module _ {ix st wk : List ℕ} {low high : ℕ} (d : Tieable ix st wk low high) 
             won = λ g h a b. absurd (omega (arith, same-count g));
           }
 
-          -- what was listed is, and the lower root
-          listed : (r : ℕ) → Listed (notesOf wk) r ⊎ (r ≡ var t) → Listed (notesOf wk₂) r
-          listed r (inl (i, h, e)) =
-              let b : i < notesOf wk₁ .blocksEnd = omega (arith, k .beside .blocksEnd) in
-              (i, omega (arith, p .grows), p .kept i b ∙ ap (λ (l : List ℕ). getD l i 0) (k .beside .roots) ∙ e)
-          listed r (inr e) = rw (e ∙ var-t) (p .listed)
+          -- the block that is listed
+          abbrev block : Block
+          block = blockBetween st (high / 2) (low / 2)
 
-          pairs : PairsBut (Listed (notesOf wk₂)) (formulaOf ix) (stateIn st₁)
-          pairs = rw step (pairs-weaken listed (pairs-tied x t opened-x (d .pairs)))
+          pub block-arcs : SpansIn st₁ block
+          block-arcs = inr (rw half at (joined-arcs tying-turnable j))
+
+          block-same : (i : ℕ) → i < notesOf wk .blocksEnd → blockAt (notesOf wk₂) i ≡ blockAt (notesOf wk) i
+          block-same i h = p .kept i (omega (arith, k .beside .blocksEnd)) ∙ rw (k .beside .blocks)
+
+          carried : Carried st wk st₁ wk₂
+          carried = record {
+            followed = joined-followed tying-turnable j;
+            grows = omega (arith, p .grows, k .beside .blocksEnd);
+            kept = block-same;
+            facing = λ i h. ap (λ (l : List ℕ). getD l i 0) (p .gathered) ∙ k .facing i h;
+          }
+
+          blocks : Blocks st₁ wk₂
+          blocks = record {
+            at = λ i h. ⊎-elim
+                (λ b.
+                let l : i < notesOf wk .blocksEnd = omega (arith, k .beside .blocksEnd) in
+                subst (SpansIn st₁) (sym (block-same i l)) (spans-carried carried (blockAt (notesOf wk) i) (d .blocks .at i l)))
+                (λ e. subst (SpansIn st₁) (sym e) block-arcs)
+                (p .only i h);
+          }
+
+          -- what the tie adds is of that block, which is listed unless no wide clause held the higher root
+          adds : Adds (Listed st₁ wk₂) (formulaOf ix) (stateIn st) (stateIn st₁)
+          adds = elim (decLt 0 n) [
+            | yes o ↦
+                let w = p .listed o in
+                adds-by (λ g h a b m l. (w .0, w .1, subst (λ (b : Block). ListsIn st₁ b g h) (sym (w .2)) (rw half at l))) (joined-lists tying-turnable j)
+            | no o ↦ adds-any (joined-unheld tying-turnable j (λ c m w i.
+                let g = formula-mem ix m in
+                let z = k .all (g .0) (g .1) (rw (g .2) at w) (rw (g .2) at (holds-mentions (high / 2) (standing (stateIn st) c) i)) in
+                omega (arith, z .2)))
+          ]
 
           -- a clause in which the lower root stands twice now was gathered
           twice-gathered : (g : ℕ) → g < clauseCount ix → (m : List·Memᴰ (clauseOf ix g) (formulaOf ix)) → Wide (standing (stateIn st₁) (clauseOf ix g)) →
-              2 ≤ mentions (low / 2) (standing (stateIn st₁) (clauseOf ix g)) → Gathered (notesOf wk₂) n g
+              2 ≤ mentions (low / 2) (standing (stateIn st₁) (clauseOf ix g)) → Gathered (notesOf wk₂) 0 n g
           unfolding x
           twice-gathered g h m w e =
               let w₁ : Wide (standing (assign x t (stateIn st)) (clauseOf ix g)) = rw step at w in
@@ -170,22 +200,27 @@ module _ {ix st wk : List ℕ} {low high : ℕ} (d : Tieable ix st wk low high) 
               let o = distinct-joined (d .distinct) x t opened-x opened-t apart (clauseOf ix g) m w₁ e₁ in
               let q : mentions (high / 2) (standing (stateIn st) (clauseOf ix g)) ≡ 1 = rw (var-at high) at (o .1) in
               let i = k .all g h (wide-before (stateIn st) x t opened-x (clauseOf ix g) w₁) (omega arith) in
-              (i .0, i .1, ap (λ (l : List ℕ). getD l (i .0) 0) (p .gathered) ∙ i .2)
+              (i .0, i .1, i .2, ap (λ (l : List ℕ). getD l (i .0) 0) (p .gathered) ∙ i .3)
 
           module _ (st′ wk′ : List ℕ) where
             tied : UndoubledAll ix st₁ wk₂ n (low / 2) st′ wk′ false → Tied ix st wk st′ wk′
             unfolding x t
             tied u = record {
-              steps = let r = falls-steps (rw step at path) in (suc (r .0), one-more x t (d .asked) (r .1));
+              steps = let r = falls-steps (rw step at path) in (suc (r .0), one-more x t (d .tying .asked) (r .1));
               sound = moved .went .sound;
               noting = noting-trans noting (moved .went .noting);
               distinct = distinct-weaken (distinct-looked (falls-distinct path (rw step (distinct-tied (d .distinct) x t opened-x))) (low / 2) once)
                   (λ r q. ⊎-elim (λ z. z) (λ e. q .1 (e ∙ var-t)) (q .0));
-              pairs = pairs-weaken (λ r i. (i .0, omega (arith, i .1, moved .went .blocksEnd), ap (λ (l : List ℕ). getD l (i .0) 0) (moved .went .roots) ∙ i .2)) (falls-pairs path pairs);
+              blocks = blocks-fell sound path moved blocks;
+              carried = carried-trans carried fell;
+              adds = adds-by (λ g h a b m. listed-carried fell g h) (adds-still adds (falls-adds path));
               listed = omega (arith, moved .went .blocksEnd, p .one, k .beside .blocksEnd);
               fewer = omega (arith, moved .went .fewer, j .fewer);
             }
               where
+                fell : Carried st₁ wk₂ st′ wk′
+                fell = carried-fell sound (u .fell .0) (u .fell .1)
+
                 path : Falls (formulaOf ix) (stateIn st₁) (stateIn st′)
                 path = u .fell .0
 
@@ -199,10 +234,10 @@ module _ {ix st wk : List ℕ} {low high : ℕ} (d : Tieable ix st wk low high) 
                       | yes e ↦
                           let v : Once ix st′ (low / 2) (g .0) = u .once refl (g .0) (twice-gathered (g .0) (g .1) (rw (g .2) at m) (rw (g .2) at (falls-wide path c w)) (rw (g .2) at e)) in
                           rw (g .2) (v (rw (g .2) at w))
-                      | no e ↦ omega (arith, falls-mentions path c (low / 2) (omega (arith, d .opened)))
+                      | no e ↦ omega (arith, falls-mentions path c (low / 2) (omega (arith, d .tying .opened)))
                     ]
 
             pub tying-done : (b : Bool) → UndoubledAll ix st₁ wk₂ n (low / 2) st′ wk′ b → TieOf ix st wk st′ wk′ b
             unfolding x t
-            tying-done true u = (died-after (one-more x t (d .asked) none-left) (rw step at (u .fell .0)), u .fell .1)
+            tying-done true u = (died-after (one-more x t (d .tying .asked) none-left) (rw step at (u .fell .0)), u .fell .1)
             tying-done false u = tied u

@@ -56,7 +56,7 @@ pub record DoublingAll (ix st wk : List ℕ) (n r : ℕ) : Type 0 where
 
 pub record UndoubledAll (ix st wk : List ℕ) (n r : ℕ) (st′ wk′ : List ℕ) (dead : Bool) : Type 0 where
   pub fell : Fell ix st wk st′ wk′ dead
-  pub once : dead ≡ false → (g : ℕ) → Gathered (notesOf wk) n g → Once ix st′ r g
+  pub once : dead ≡ false → (g : ℕ) → Gathered (notesOf wk) 0 n g → Once ix st′ r g
 
 -- r is an open root
 pub record OpenRoot (ix st wk : List ℕ) (r : ℕ) : Type 0 where

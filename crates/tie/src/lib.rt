@@ -8,9 +8,10 @@ ghost use Rattle.theory.specs.State.{replace};
 ghost use Rattle.tally.specs.Tally.{tallyOf};
 ghost use Rattle.notes.specs.Notes.{notesOf, Whole, maxBlocks};
 ghost use Rattle.tie.specs.Turning.{Turnable, Turned, Joined, withSwapped};
-ghost use Rattle.tie.specs.Listing.{Pushed};
+ghost use Rattle.tie.specs.Listing.{blockBetween, ListedBy};
 ghost use Rattle.tie.specs.Doubling.{stood, Signable, Doubling, Undoubled, DoublingAll, UndoubledAll, OpenRoot, DoublesOf};
 ghost use Rattle.tie.specs.Tying.{Tieable, TieOf};
+use notes::Block;
 use notes::Notes;
 use occurrences::Index;
 use tally::Tally;
@@ -94,19 +95,33 @@ pub fn doubles_at(index: &Index, state: &mut Tally, work: &mut Notes, r: u16) ->
 
 // Ties ---------------------------------------------------------------------------------------------------------------
 
-// Lists root r for its pairs, unless it is the last one listed already.
-pub fn push_root(work: &mut Notes, r: u16)
+// The pairs of a clause that holds the class of root q and a clause that holds the class of root r: each ring is a stretch from its root's link to the root.
+fn block_between(state: &Tally, q: u16, r: u16) -> Block
+    requires { ⌜ q ≤ maxVariables ⌝ }
+    requires { ⌜ r ≤ maxVariables ⌝ }
+    ensures { λ b. ⌜ b ≡ blockBetween (now (state .entry)) q r ⌝ }
+{
+    let first = tally::link_of(state, q as usize);
+    let from = tally::link_of(state, r as usize);
+    Block {
+        first,
+        last: q,
+        from,
+        to: r,
+    }
+}
+
+// Lists a block, where any clauses were gathered for it.
+fn list_block(work: &mut Notes, gathered: usize, block: Block)
     requires { ⌜ Whole (now work) ⌝ }
     requires { ⌜ notesOf (now work) .blocksEnd < maxBlocks ⌝ }
-    ensures { λ _. ⌜ Pushed (now (work .entry)) r (now (work .exit)) ⌝ }
+    ensures { λ _. ⌜ ListedBy (now (work .entry)) gathered block (now (work .exit)) ⌝ }
 {
-    let end = notes::blocks_end(work);
-    if 0 < end {
-        if notes::root_at(work, end - 1) == r {
-            return;
-        }
+    if gathered == 0 {
+        return;
     }
-    notes::put_root(work, end, r);
+    let end = notes::blocks_end(work);
+    notes::put_block(work, end, block);
     notes::set_blocks_end(work, end + 1);
 }
 
@@ -157,13 +172,15 @@ fn join(state: &mut Tally, x: u16, t: u16)
 }
 
 // Rules 6 and 8: exactly one of `low` and `high` is true, literals of open roots of which high's is the higher; it becomes the opposite of low.
-// Clauses that held the higher root are gathered before it goes over: there the lower one may stand twice now. True is a dead end.
+// Clauses that held the higher root are gathered before it goes over: there the lower one may stand twice now, and of the pairs that it makes meet each has
+// one of them and one that held the lower root. True is a dead end.
 pub fn tie(index: &Index, state: &mut Tally, work: &mut Notes, low: u16, high: u16) -> bool
     requires { ⌜ Tieable (now index) (now state) (now work) low high ⌝ }
     ensures { λ b. ⌜ TieOf (now (index .entry)) (now (state .entry)) (now (work .entry)) (now (state .exit)) (now (work .exit)) b ⌝ }
 {
     let n = gather::gather(index, state, work, high / 2);
+    let block = block_between(state, high / 2, low / 2);
     join(state, high, tally::opposite(low));
-    push_root(work, low / 2);
+    list_block(work, n, block);
     undoubles(index, state, work, n, low / 2)
 }

@@ -7,8 +7,9 @@ use Rattle.start.proofs.list_at.Tie as tie
 
 returns : tie.Need-returns
 returns c =
-    let b = c .before .before .before .before in
-    listing-one (b .pre .1 .0) (b .pre .1 .1 .0) (b .pre .1 .1 .1 .0) (b .pre .1 .1 .1 .1) (c .put-root .ensures .1) (c .put-root .ensures .0)
+    let k = c .before .before in
+    let b = k .before .before .before in
+    listing-one (b .pre .1 .0) (b .pre .1 .1 .1 .0) (b .pre .1 .1 .1 .1) (c .put-block .ensures .1) (rw (k .signs-block .ensures) at (c .put-block .ensures .0))
 
 returns-2 : tie.Need-returns-2
 returns-2 c =
