@@ -67,19 +67,17 @@ module _ {ix st wk : List ℕ} {g a n : ℕ} {marks : List ℕ} {i : ℕ} (o : C
 
     pub compares-common : (x : ℕ) → MetWide (standing (stateIn st) (clauseOf ix h)) marks (Common x) → FacedBy ix st wk g a n (faced.Common i)
     compares-common x (w, met) =
-        let m = common-meets (o .marked) (opened w) (o .comparing .readable .wide, w) (compares-asks .distinct w) x met in
-        (
+        let m = common-meets (o .marked) (opened w) (o .comparing .readable .wide, w) (compares-asks .distinct w) x met in (
           (more, o .apart),
           rw (← next) (record { one = o .comparing .readable; other = other w; common = literalAt x; crossing = m .0; meets = m .1; shared = met .1 }),
         )
 
     pub compares-crossed : (low high : ℕ) → MetWide (standing (stateIn st) (clauseOf ix h)) marks (Crossed low high) → FacedBy ix st wk g a n (faced.Crossed low high i)
     compares-crossed low high (w, met) =
-        let m = crossed-meets (o .marked) (opened w) (o .comparing .readable .wide, w) low high met in
-        (
+        let m = crossed-meets (o .marked) (opened w) (o .comparing .readable .wide, w) low high met in (
           (more, o .apart),
           meets-tying ix st (o .comparing .lookable .sound .index) (o .comparing .lookable .sound .classes) g h (o .comparing .readable .inside) inside
-          (compares-asks .distinct w) low high (met .0) (met .1) (met .2 .0) (met .3 .0) m,
+              (compares-asks .distinct w) low high (met .0) (met .1) (met .2 .0) (met .3 .0) m,
         )
 
   pub compares-ends : n ≤ i → FacedBy ix st wk g a n faced.Apart

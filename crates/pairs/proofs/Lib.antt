@@ -9,3 +9,6 @@ pub mod Passes
 pub mod Sharing
 pub mod Looking
 pub mod Rows
+pub mod Variables
+pub mod Walking
+pub mod Blocks

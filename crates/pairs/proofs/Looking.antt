@@ -1,5 +1,5 @@
 -- Looks go together: by no step, by steps of rules 7 and 8, by two looks, and from before the clauses that face were gathered.
-use mathlib.Core.Path.{_≡_, ap, sym, subst}
+use mathlib.Core.Path.{_≡_, sym, subst}
 use mathlib.Core.List.{List}
 use Prim.Native.Nat.{ℕ}
 use native.Mathlib.Omega.{arith}
@@ -8,7 +8,7 @@ use Rattle.theory.proofs.Falls.{Falls, still, falls-steps, falls-adds, falls-di
 use Rattle.occurrences.specs.Index.{formulaOf}
 use Rattle.tally.specs.Tally.{stateIn}
 use Rattle.notes.specs.declared.Block.{Block}
-use Rattle.notes.specs.Notes.{Notes, notesOf, blockAt}
+use Rattle.notes.specs.Notes.{notesOf, blockAt}
 use Rattle.moves.specs.Moving.{Moved}
 use Rattle.moves.specs.Listing.{ListsIn, Listed, SpansIn}
 use Rattle.moves.proofs.Moves.{moved-refl, noting-trans}

@@ -7,7 +7,7 @@ use native.Mathlib.Omega.{arith}
 use Rattle.general.specs.Booleans.{bit}
 use Rattle.literal.specs.Literal.{maxLiterals}
 use Rattle.theory.specs.Formula.{Clause, Formula}
-use Rattle.theory.specs.State.{State, standing}
+use Rattle.theory.specs.State.{State}
 use Rattle.theory.proofs.Paired.{Relation, Looked, looked-by, Facing, Row, row-apart}
 use Rattle.occurrences.specs.Index.{clauseCount, clauseOf, formulaOf}
 use Rattle.tally.specs.Tally.{stateIn, countIn}
@@ -17,7 +17,6 @@ use Rattle.moves.specs.Stepping.{Died}
 use Rattle.moves.proofs.Dying.{died-after}
 use Rattle.gather.specs.Gathering.{isWide}
 use Rattle.tie.specs.Tying.{Tying, Tieable, Tied}
-use Rattle.pairs.specs.Meeting.{Readable}
 use Rattle.pairs.specs.Looking.{Lookable, Looking}
 use Rattle.pairs.specs.Faces.{facingAt, facing, Faces, Unmet, Comparing, FirstAt, FacedBy, ClearOf}
 use Rattle.pairs.specs.Parts.{Facable, RowOf}
@@ -27,7 +26,7 @@ use Rattle.pairs.proofs.Looking.{looking-as, looking-fell, looking-tied
 
 -- steps leave the clauses that face
 module _ {st wk st′ wk′ : List ℕ} (c : Carried st wk st′ wk′) where
-  pub facing-same : (i : ℕ) → facingAt wk′ i ≡ facingAt wk i
+  facing-same : (i : ℕ) → facingAt wk′ i ≡ facingAt wk i
   facing-same i = c .facing (maxLiterals + i) (omega arith)
 
   pub faces-carried : (ix : List ℕ) (n : ℕ) → Faces ix wk n → Faces ix wk′ n
@@ -49,9 +48,6 @@ rows-begin f i = record { looking = looking-as (λ a. looked-by a (λ g h p q l 
 module _ {ix st wk : List ℕ} {g n : ℕ} {st′ wk′ : List ℕ} {k : ℕ} (o : Rows ix st wk g n st′ wk′ k) where
   lookable : Lookable ix st′ wk′
   lookable = o .looking .at .lookable
-
-  pub rows-few : (i : ℕ) → i < n → maxLiterals + i < maxLiterals + maxLiterals
-  rows-few i h = omega (arith, o .faces .few)
 
   -- those from the k-th to the i-th do not meet the clause
   further : (i : ℕ) → ((j : ℕ) → k ≤ j → j < i → Unmet ix st′ wk′ g j) → Looking (Row (clauseOf ix g) (facing ix wk) i) ix st wk st′ wk′

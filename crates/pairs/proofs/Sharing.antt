@@ -2,7 +2,7 @@
 use mathlib.Core.Path.{_≡_, ap, sym, _∙_}
 use mathlib.Core.Bool.{false}
 use mathlib.Core.Logic.{_⊎_, inl, inr, ⊎-elim}
-use mathlib.Core.List.{List, List·Memᴰ}
+use mathlib.Core.List.{List, _∷_, List·Memᴰ}
 use Prim.Native.Nat.{ℕ, _+_, _-_, _/_, _<_, _≤_}
 use native.Mathlib.Omega.{arith}
 use lib.ListN.{getD}
@@ -77,13 +77,17 @@ module _ {ix st wk : List ℕ} {g h : ℕ} {marks : List ℕ} {start end : ℕ} 
       crossing = o .crossing;
       passing = o .passing;
       moved = o .moved;
-      fewer = ⊎-elim inl (λ (x, like, m). inr (x, like, marked-ahead (stateIn st′) (literalAt (codeAt ix i)) (restOf ix (i + 1) end) marks x like not-like (rw (rest-cons ix i end more) at m))) (o .fewer);
+      fewer = ⊎-elim inl (λ (x, like, m). inr (x, like, next x like (rw (rest-cons ix i end more) at m))) (o .fewer);
     }
       where
         not-like : ¬ Like marks (value (stateIn st′) (literalAt (codeAt ix i)))
         not-like e =
             let d : v / 2 ≡ var (value (stateIn st′) (literalAt (codeAt ix i))) = rw is (sym (var-code (value (stateIn st′) (literalAt (codeAt ix i))))) in
             unlike (read ∙ ap (λ (p : ℕ). getD marks p 0) d ∙ e ∙ sym is)
+
+        next : (x : Literal) → Like marks x → List·Memᴰ x (standing (stateIn st′) (literalAt (codeAt ix i) ∷ restOf ix (i + 1) end)) →
+            List·Memᴰ x (standing (stateIn st′) (restOf ix (i + 1) end))
+        next x like = marked-ahead (stateIn st′) (literalAt (codeAt ix i)) (restOf ix (i + 1) end) marks x like not-like
 
     -- it is, and falls
     module _ (like : mark ≡ v) where
@@ -102,7 +106,7 @@ module _ {ix st wk : List ℕ} {g h : ℕ} {marks : List ℕ} {start end : ℕ} 
         one-fewer = omega (
           arith,
           roots-turned (tallyOf st′ .values) (tallyOf st″ .values) v FALSE (sound .exact .long-values) (d .1 .went .sound .exact .long-values) (d .0) (falling .opened) (falling .below)
-          (falling .root) (λ q. omega (arith, q, falling .opened)) (omega arith) (sound .classes .base) maxVariables (omega arith) (omega (arith, falling .below)),
+              (falling .root) (λ q. omega (arith, q, falling .opened)) (omega arith) (sound .classes .base) maxVariables (omega arith) (omega (arith, falling .below)),
         )
 
         pub shares-goes : Shares ix st wk g h marks start end st″ wk″ (i + 1)

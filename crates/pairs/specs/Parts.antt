@@ -1,13 +1,12 @@
 -- The parts of a look: one clause, those of one variable and those of a stretch, each with the clauses that face.
 use mathlib.Core.Bool.{Bool}
 use mathlib.Core.List.{List, _∷_, List·Memᴰ}
-use Prim.Native.Nat.{ℕ, _≤_, _<_}
+use Prim.Native.Nat.{ℕ}
 use Rattle.literal.specs.declared.Literal.the-variants.{Pos, Neg}
-use Rattle.literal.specs.Literal.{maxVariables}
 use Rattle.theory.specs.Formula.{Clause}
 use Rattle.theory.proofs.Counts.{Holds}
 use Rattle.theory.proofs.Paired.{Row, Facing}
-use Rattle.occurrences.specs.Index.{clauseCount, clauseOf}
+use Rattle.occurrences.specs.Index.{clauseOf}
 use Rattle.tally.specs.Tally.{tallyOf}
 use Rattle.tally.specs.Stretch.{Stretch, Reaches}
 use Rattle.gather.specs.declared.Sign.{Sign}

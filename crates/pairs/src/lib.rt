@@ -253,8 +253,22 @@ pub fn look(index: &Index, state: &mut Tally, work: &mut Notes, block: Block) ->
     let first = block.first;
     let last = block.last;
     if last == 0 {
-        let end = gather::gather_variable(index, state, work, first as usize, notes::FACING, Sign::Negative);
-        return meet_variable(index, state, work, first as usize, end - notes::FACING, Sign::Positive);
+        let end = gather::gather_variable(
+            index,
+            state,
+            work,
+            first as usize,
+            notes::FACING,
+            Sign::Negative,
+        );
+        return meet_variable(
+            index,
+            state,
+            work,
+            first as usize,
+            end - notes::FACING,
+            Sign::Positive,
+        );
     }
     let end = gather::gather_stretch(index, state, work, block.from, block.to, notes::FACING);
     if end == notes::FACING {

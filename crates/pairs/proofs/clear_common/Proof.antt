@@ -1,7 +1,6 @@
 -- `clear_common` meets its contract, by the laws of Sharing.
 use mathlib.Core.Logic.{⊎-elim}
 use Prim.Native.Nat.{_-_}
-use borrow.Author.Needs.{needs}
 use native.Mathlib.Omega.{arith}
 use Rattle.pairs.proofs.Reading.{start-ends, place-inside, code-known}
 use Rattle.pairs.proofs.Sharing.{Shares, shares-begins, shares-below, shares-passes, shares-decides, shares-dead, shares-goes, shares-ends}
@@ -20,7 +19,9 @@ end-of-requires c κs =
     (omega (arith, k .inside, k .index .few), start-ends (k .index) _ (k .inside))
 
 loop-holds : tie.Need-loop-holds Inv-loop μ-loop
-loop-holds c = let p = c .before .before .before .before .pre in shares-begins (p .0) (p .1) (c .before .start-of .ensures) (c .end-of .ensures) (c .before .before .mark-clause .ensures)
+loop-holds c =
+    let p = c .before .before .before .before .pre in
+    shares-begins (p .0) (p .1) (c .before .start-of .ensures) (c .end-of .ensures) (c .before .before .mark-clause .ensures)
 
 value-at-requires : tie.Need-value-at-requires Inv-loop μ-loop
 value-at-requires c κs = let t = c .before in let o = t .before .loop .inv .reads in (place-inside o (t .loop-test .taken), code-known o (t .loop-test .taken))

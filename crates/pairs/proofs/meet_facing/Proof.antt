@@ -1,13 +1,14 @@
 -- `meet_facing` meets its contract, by the laws of Rows.
+use Prim.Native.Nat.{_<_}
 use borrow.Author.Needs.{needs}
 use native.Mathlib.Omega.{arith}
 use denote.Ref.{now}
-use Rattle.literal.specs.Literal.{maxVariables}
+use Rattle.literal.specs.Literal.{maxVariables, maxLiterals}
 use Rattle.tally.specs.Tally.{tallyOf}
 use Rattle.tally.specs.Counts.{roots}
 use Rattle.pairs.specs.Faces.{FacedBy}
 use Rattle.pairs.specs.declared.Faced.the-variants.{Common, Crossed}
-use Rattle.pairs.proofs.Rows.{Rows, rows-begin, rows-few, rows-narrow, rows-ask, rows-apart, rows-tie, rows-dead, rows-cleared, rows-tied}
+use Rattle.pairs.proofs.Rows.{Rows, rows-begin, rows-narrow, rows-ask, rows-apart, rows-tie, rows-dead, rows-cleared, rows-tied}
 use Rattle.pairs.proofs.meet_facing.Statement.{statement}
 use Rattle.pairs.proofs.meet_facing.Tie as tie
 
@@ -38,7 +39,9 @@ first-met-requires c κs =
     rows-ask (k .before .before .loop .inv) (k .count-of .result) (w .wide .result) (k .count-of .ensures) (w .wide .ensures) (e .if1 .left)
 
 returns-2 : tie.Need-returns-2 Inv-loop μ-loop
-returns-2 c = let m = c .before .before in rows-apart (m .before .before .before .before .before .before .before .loop .inv) (rw (c .enum-told .given .1) at (m .first-met .ensures))
+returns-2 c =
+    let m = c .before .before in
+    rows-apart (m .before .before .before .before .before .before .before .loop .inv) (rw (c .enum-told .given .1) at (m .first-met .ensures))
 
 -- the first that meets the clause, by rule 7
 found : (c : tie.After-faced Inv-loop μ-loop) →
@@ -46,17 +49,23 @@ found : (c : tie.After-faced Inv-loop μ-loop) →
     FacedBy (now (l .before .args .index)) (l .loop .state) (l .loop .work) (l .before .args .g) (l .loop .at) (l .before .args .n) (Common (c .faced .given .0 .0))
 found c = rw (c .faced .given .1) at (c .before .before .first-met .ensures)
 
+few : (c : tie.After-faced Inv-loop μ-loop) → c .faced .given .0 .0 < maxLiterals
+few c = omega (arith, found c .0 .0, c .before .before .before .before .before .before .before .before .before .loop .inv .faces .few)
+
 gathered-at-requires : tie.Need-gathered-at-requires Inv-loop μ-loop
-gathered-at-requires c κs = let f = c .before .before in omega (arith, rows-few (f .before .before .before .before .before .before .before .before .before .loop .inv) (f .faced .given .0 .0) (found f .0 .0))
+gathered-at-requires c κs = omega (arith, few (c .before .before))
 
 clear-common-requires : tie.Need-clear-common-requires Inv-loop μ-loop
 clear-common-requires c κs =
     let h = c .before .before in
     let f = h .before .before .before in
-    (f .before .before .before .before .before .before .before .before .before .loop .inv .looking .at .lookable .sound, rw (h .gathered-at .ensures) (found f .1))
+    let l = f .before .before .before .before .before .before .before .before .before in
+    (l .loop .inv .looking .at .lookable .sound, rw (h .gathered-at .ensures) (found f .1))
 
 returns-3 : tie.Need-returns-3 Inv-loop μ-loop
-returns-3 c = let d = c .before in rows-dead (c .before .before .before .before .before .before .before .before .before .before .before .before .before .before .before .before .loop .inv) _ (rw (c .if2 .taken) at (d .clear-common .ensures))
+returns-3 c =
+    let f = c .before .before .before .before .before .before .before in
+    rows-dead (f .before .before .before .before .before .before .before .before .before .loop .inv) _ (rw (c .if2 .taken) at (c .before .clear-common .ensures))
 
 loop-less : tie.Need-loop-less Inv-loop μ-loop
 loop-less c = let e = rw (c .if2 .left) at (c .before .clear-common .ensures) in e .2
@@ -64,20 +73,26 @@ loop-less c = let e = rw (c .if2 .left) at (c .before .clear-common .ensures) in
 loop-again : tie.Need-loop-again Inv-loop μ-loop
 loop-again c =
     let f = c .before .before .before .before .before .before .before in
-    rows-cleared (f .before .before .before .before .before .before .before .before .before .loop .inv) (f .faced .given .0 .0) (found f .0) (rw (c .if2 .left) at (c .before .clear-common .ensures))
+    let l = f .before .before .before .before .before .before .before .before .before in
+    rows-cleared (l .loop .inv) (f .faced .given .0 .0) (found f .0) (rw (c .if2 .left) at (c .before .clear-common .ensures))
 
 -- the same, by rule 8
-tied : (c : tie.After-faced2 Inv-loop μ-loop) →
+crossed : (c : tie.After-faced2 Inv-loop μ-loop) →
     let l = c .before .before .before .before .before .before .before .before .before in
     FacedBy (now (l .before .args .index)) (l .loop .state) (l .loop .work) (l .before .args .g) (l .loop .at) (l .before .args .n)
     (Crossed (c .faced2 .given .0 .0) (c .faced2 .given .0 .1 .0) (c .faced2 .given .0 .1 .1 .0))
-tied c = rw (c .faced2 .given .1) at (c .before .before .first-met .ensures)
+crossed c = rw (c .faced2 .given .1) at (c .before .before .first-met .ensures)
 
 tie-requires : tie.Need-tie-requires Inv-loop μ-loop
-tie-requires c κs = let f = c .before .before .before in rows-tie (f .before .before .before .before .before .before .before .before .before .loop .inv) (f .faced2 .given .0 .0) (f .faced2 .given .0 .1 .0) (tied f .1)
+tie-requires c κs =
+    let f = c .before .before .before in
+    let l = f .before .before .before .before .before .before .before .before .before in
+    rows-tie (l .loop .inv) (f .faced2 .given .0 .0) (f .faced2 .given .0 .1 .0) (crossed f .1)
 
 returns-4 : tie.Need-returns-4 Inv-loop μ-loop
-returns-4 c = rows-dead (c .before .before .before .before .before .before .before .before .before .before .before .before .before .before .loop .inv) _ (rw (c .if3 .taken) at (c .before .tie .ensures))
+returns-4 c =
+    let f = c .before .before .before .before .before in
+    rows-dead (f .before .before .before .before .before .before .before .before .before .loop .inv) _ (rw (c .if3 .taken) at (c .before .tie .ensures))
 
 loop-less-2 : tie.Need-loop-less-2 Inv-loop μ-loop
 loop-less-2 c = let e = rw (c .if3 .left) at (c .before .tie .ensures) in e .fewer
@@ -85,7 +100,8 @@ loop-less-2 c = let e = rw (c .if3 .left) at (c .before .tie .ensures) in e .few
 loop-again-2 : tie.Need-loop-again-2 Inv-loop μ-loop
 loop-again-2 c =
     let f = c .before .before .before .before .before in
-    rows-tied (f .before .before .before .before .before .before .before .before .before .loop .inv) (f .faced2 .given .0 .1 .1 .0) (tied f .0) (rw (c .if3 .left) at (c .before .tie .ensures))
+    let l = f .before .before .before .before .before .before .before .before .before in
+    rows-tied (l .loop .inv) (f .faced2 .given .0 .1 .1 .0) (crossed f .0) (rw (c .if3 .left) at (c .before .tie .ensures))
 
 pub meet-facing-spec : {M : Type 1} → statement M
 meet-facing-spec =
@@ -101,7 +117,7 @@ meet-facing-spec =
     (λ c. search needs)
     returns-2
     (λ c. search needs)
-    (λ c. let f = c .before .before in omega (arith, rows-few (f .before .before .before .before .before .before .before .before .before .loop .inv) (f .faced .given .0 .0) (found f .0 .0)))
+    (λ c. omega (arith, few (c .before .before)))
     gathered-at-requires
     (λ c. search needs)
     clear-common-requires
