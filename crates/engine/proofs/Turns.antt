@@ -132,7 +132,7 @@ module _ {wk wk′ : List ℕ} {end : ℕ} (d : Delisted wk wk′ end) where
       module _ (early : at ≤ notesOf wk .todoEnd) (before : next ≤ notesOf wk .todoEnd) where
         pub ready-looked : {st″ wk″ : List ℕ} → LookedAt (ListsIn st (blockAt (notesOf wk) end)) ix st wk′ st″ wk″ → Ready ix st″ wk″ at next
         ready-looked l = ready-steps ready early before (l .steps .1) (l .lookable .sound) (noting-trans noting-delisted (l .noting)) (l .lookable .distinct) (l .lookable .blocks)
-            (paired-weaken (λ g h. ⊎-elim (listed-carried (l .carried) g h) (λ k. k)) (paired-looked (l .looked) (paired-weaken (delisted st) (ready .pairs))))
+            (paired-weaken (λ g h. ⊎-elim (l .kept g h) (λ k. k)) (paired-looked (l .looked) (paired-weaken (delisted st) (ready .pairs))))
 
 -- one turn -------------------------------------------------------------------------------------------------------------
 
