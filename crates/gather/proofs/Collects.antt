@@ -25,13 +25,13 @@ module _ (wk wk′ : List ℕ) (end x : ℕ) (put : notesOf wk′ ≡ withGather
   gathered-put : notesOf wk′ .gathered ≡ set (notesOf wk .gathered) end x
   gathered-put = ap (λ (w : Notes). w .gathered) put
 
-  put-other : (i : ℕ) → i ≢ end → getD (notesOf wk′ .gathered) i 0 ≡ getD (notesOf wk .gathered) i 0
+  pub put-other : (i : ℕ) → i ≢ end → getD (notesOf wk′ .gathered) i 0 ≡ getD (notesOf wk .gathered) i 0
   put-other i n = rw gathered-put (getD-set-other (notesOf wk .gathered) end i x 0 n)
 
-  put-there : Whole wk → end < maxGathered → getD (notesOf wk′ .gathered) end 0 ≡ x
+  pub put-there : Whole wk → end < maxGathered → getD (notesOf wk′ .gathered) end 0 ≡ x
   put-there w h = rw gathered-put (getD-set-same (notesOf wk .gathered) end x 0 (omega (arith, gathered-long wk w)))
 
-  put-beside : {wk₀ : List ℕ} → Beside wk₀ wk → Whole wk′ → Beside wk₀ wk′
+  pub put-beside : {wk₀ : List ℕ} → Beside wk₀ wk → Whole wk′ → Beside wk₀ wk′
   put-beside b w = record {
     whole = w;
     todo = ap (λ (n : Notes). n .todo) put ∙ b .todo;

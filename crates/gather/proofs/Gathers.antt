@@ -130,7 +130,7 @@ module _ {ix st : List ℕ} {r : ℕ} (a : AtRoot ix st r) where
   root-stretch = ring-stretch (a .exact .long-values) (a .opened) ring
 
   -- what mentions the root is reached by its ring
-  mentioned : {Done : ℕ → Type 0} → ((g : ℕ) → WideIn ix st g → Reaches (r ∷ ring .others) (clauseOf ix g) → Done g) →
+  pub mentioned : {Done : ℕ → Type 0} → ((g : ℕ) → WideIn ix st g → Reaches (r ∷ ring .others) (clauseOf ix g) → Done g) →
       (g : ℕ) → g < clauseCount ix → Wide (standing (stateIn st) (clauseOf ix g)) → 0 < mentions r (standing (stateIn st) (clauseOf ix g)) → Done g
   mentioned done g h w m = done g (wide-in (a .index) g h st (a .exact) w)
       (holds-reached (a .exact .long-values) (a .opened) ring (clauseOf ix g) (a .inside) (mentions-holds r (standing (stateIn st) (clauseOf ix g)) m))

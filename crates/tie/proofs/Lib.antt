@@ -8,4 +8,6 @@ pub mod Doubles
 pub mod Signing
 pub mod Undoubling
 pub mod Along
+pub mod Stamping
+pub mod Keeps
 pub mod Tyings

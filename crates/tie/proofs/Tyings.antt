@@ -1,7 +1,7 @@
 -- A tie, from what is gathered before it to rules 4 and 5 after it: what each call asks, and what all of them leave.
 use mathlib.Core.Path.{_≡_, refl, ap, sym, subst, _∙_}
 use mathlib.Core.Bool.{Bool, true, false}
-use mathlib.Core.Logic.{_⊎_, inl, inr, _≢_, ⊎-elim}
+use mathlib.Core.Logic.{inr, _≢_, ⊎-elim}
 use mathlib.Core.List.{List, List·Memᴰ}
 use Prim.Native.Nat.{ℕ, suc, _/_, _≤_, _<_}
 use native.Mathlib.Decide.{decLe, decLt}
@@ -32,10 +32,13 @@ use Rattle.moves.specs.Listing.{ListsIn, Listed, SpansIn, Blocks, Carried}
 use Rattle.moves.proofs.Moves.{noting-trans}
 use Rattle.moves.proofs.Dying.{died-after}
 use Rattle.moves.proofs.Listed.{carried-trans, carried-fell, blocks-fell, spans-carried, listed-carried}
-use Rattle.gather.specs.Gathering.{Gathering}
+use Rattle.gather.specs.Gathering.{AtRoot, Beside, Gathering}
+use Rattle.gather.proofs.Besides.{sound-root}
+use Rattle.gather.proofs.Collects.{beside-trans}
 use Rattle.tie.specs.Turning.{Turnable, Joined}
 use Rattle.tie.specs.Listing.{blockBetween, ListedBy}
 use Rattle.tie.specs.Doubling.{Once, DoublingAll, UndoubledAll}
+use Rattle.tie.specs.Keeping.{WideWith, Kept}
 use Rattle.tie.specs.Tying.{Tieable, Tied, TieOf}
 use Rattle.tie.proofs.Between.{joined-followed, joined-arcs, joined-lists, joined-unheld}
 
@@ -64,6 +67,13 @@ module _ {ix st wk : List ℕ} {low high : ℕ} (d : Tieable ix st wk low high) 
   apart : var t ≢ var x
   unfolding x
   apart e = omega (arith, var-t, var-at high, d .tying .order)
+
+  -- the roots before the step
+  pub high-root : AtRoot ix st (high / 2)
+  high-root = sound-root s (omega (arith, d .tying .order)) (omega (arith, d .tying .below)) (d .tying .high-root)
+
+  pub low-root : AtRoot ix st (low / 2)
+  low-root = sound-root s (omega (arith, d .tying .opened)) (omega (arith, d .tying .order, d .tying .below)) (d .tying .low-root)
 
   module _ (y : ℕ) (is : y ≡ codeOf (opposite (literalAt low))) where
     literal-y : literalAt y ≡ t
@@ -108,16 +118,19 @@ module _ {ix st wk : List ℕ} {low high : ℕ} (d : Tieable ix st wk low high) 
       same-count : (g : ℕ) → countIn st₁ g ≡ countIn st g
       same-count g = ap (λ (l : List ℕ). getD l g 0) (j .counts)
 
-      module _ {wk₁ : List ℕ} {n : ℕ} (k : Gathering ix st wk (high / 2) wk₁ n) where
+      module _ {wk₀ : List ℕ} {n : ℕ} (k : Gathering ix st wk (high / 2) wk₀ n) {wk₁ : List ℕ} {m : ℕ} (b : Kept (WideWith ix st (low / 2)) wk₀ n wk₁ m) where
+        beside : Beside wk wk₁
+        beside = beside-trans (k .beside) (b .beside)
+
         pub tying-room : notesOf wk₁ .blocksEnd < maxBlocks
-        tying-room = omega (arith, k .beside .blocksEnd, s .blocks-room, j .fewer)
+        tying-room = omega (arith, beside .blocksEnd, s .blocks-room, j .fewer)
 
         module _ {wk₂ : List ℕ} (p : ListedBy wk₁ n (blockBetween st (high / 2) (low / 2)) wk₂) where
           same-todo-end : notesOf wk₂ .todoEnd ≡ notesOf wk .todoEnd
-          same-todo-end = p .todoEnd ∙ k .beside .todoEnd
+          same-todo-end = p .todoEnd ∙ beside .todoEnd
 
           same-todo : notesOf wk₂ .todo ≡ notesOf wk .todo
-          same-todo = p .todo ∙ k .beside .todo
+          same-todo = p .todo ∙ beside .todo
 
           sound : Sound ix st₁ wk₂
           sound = record {
@@ -127,15 +140,15 @@ module _ {ix st wk : List ℕ} {low high : ℕ} (d : Tieable ix st wk low high) 
             classes = j .classes;
             whole = p .whole;
             todo-room = omega (arith, same-todo-end, j .loads (width ix) variables, s .todo-room);
-            blocks-room = omega (arith, p .one, k .beside .blocksEnd, j .fewer, s .blocks-room);
+            blocks-room = omega (arith, p .one, beside .blocksEnd, j .fewer, s .blocks-room);
             todo-inside = λ i h. rw same-todo (s .todo-inside i (omega (arith, same-todo-end)));
           }
 
-          pub tying-all : DoublingAll ix st₁ wk₂ n (low / 2)
+          pub tying-all : DoublingAll ix st₁ wk₂ m (low / 2)
           tying-all = record {
             sound = sound;
-            few = k .few;
-            clauses = λ i h. rw (p .gathered) (k .inside i h);
+            few = omega (arith, k .few, b .fewer);
+            clauses = λ i h. let w = b .only i h in rw (p .gathered, ← w .3) (k .inside (w .0) (w .2));
             positive = omega (arith, d .tying .opened);
             inside = omega (arith, d .tying .order, d .tying .below);
           }
@@ -158,21 +171,21 @@ module _ {ix st wk : List ℕ} {low high : ℕ} (d : Tieable ix st wk low high) 
           block-arcs = inr (rw half at (joined-arcs tying-turnable j))
 
           block-same : (i : ℕ) → i < notesOf wk .blocksEnd → blockAt (notesOf wk₂) i ≡ blockAt (notesOf wk) i
-          block-same i h = p .kept i (omega (arith, k .beside .blocksEnd)) ∙ rw (k .beside .blocks)
+          block-same i h = p .kept i (omega (arith, beside .blocksEnd)) ∙ rw (beside .blocks)
 
           carried : Carried st wk st₁ wk₂
           carried = record {
             followed = joined-followed tying-turnable j;
-            grows = omega (arith, p .grows, k .beside .blocksEnd);
+            grows = omega (arith, p .grows, beside .blocksEnd);
             kept = block-same;
-            facing = λ i h. ap (λ (l : List ℕ). getD l i 0) (p .gathered) ∙ k .facing i h;
+            facing = λ i h. ap (λ (l : List ℕ). getD l i 0) (p .gathered) ∙ b .beyond i (omega (arith, k .few)) ∙ k .facing i h;
           }
 
           blocks : Blocks st₁ wk₂
           blocks = record {
             at = λ i h. ⊎-elim
                 (λ b.
-                let l : i < notesOf wk .blocksEnd = omega (arith, k .beside .blocksEnd) in
+                let l : i < notesOf wk .blocksEnd = omega (arith, beside .blocksEnd) in
                 subst (SpansIn st₁) (sym (block-same i l)) (spans-carried carried (blockAt (notesOf wk) i) (d .blocks .at i l)))
                 (λ e. subst (SpansIn st₁) (sym e) block-arcs)
                 (p .only i h);
@@ -190,20 +203,22 @@ module _ {ix st wk : List ℕ} {low high : ℕ} (d : Tieable ix st wk low high) 
                 omega (arith, z .2)))
           ]
 
-          -- a clause in which the lower root stands twice now was gathered
-          twice-gathered : (g : ℕ) → g < clauseCount ix → (m : List·Memᴰ (clauseOf ix g) (formulaOf ix)) → Wide (standing (stateIn st₁) (clauseOf ix g)) →
-              2 ≤ mentions (low / 2) (standing (stateIn st₁) (clauseOf ix g)) → Gathered (notesOf wk₂) 0 n g
+          -- a clause in which the lower root stands twice now held both, and was kept
+          twice-kept : (g : ℕ) → g < clauseCount ix → List·Memᴰ (clauseOf ix g) (formulaOf ix) → Wide (standing (stateIn st₁) (clauseOf ix g)) →
+              2 ≤ mentions (low / 2) (standing (stateIn st₁) (clauseOf ix g)) → Gathered (notesOf wk₂) 0 m g
           unfolding x
-          twice-gathered g h m w e =
+          twice-kept g h m w e =
               let w₁ : Wide (standing (assign x t (stateIn st)) (clauseOf ix g)) = rw step at w in
               let e₁ : 2 ≤ mentions (var t) (standing (assign x t (stateIn st)) (clauseOf ix g)) = rw var-t (rw step at e) in
               let o = distinct-joined (d .distinct) x t opened-x opened-t apart (clauseOf ix g) m w₁ e₁ in
+              let r : mentions (low / 2) (standing (stateIn st) (clauseOf ix g)) ≡ 1 = rw var-t at (o .0) in
               let q : mentions (high / 2) (standing (stateIn st) (clauseOf ix g)) ≡ 1 = rw (var-at high) at (o .1) in
-              let i = k .all g h (wide-before (stateIn st) x t opened-x (clauseOf ix g) w₁) (omega arith) in
+              let z = wide-before (stateIn st) x t opened-x (clauseOf ix g) w₁ in
+              let i = b .all g (h, z, omega arith) (k .all g h z (omega arith)) in
               (i .0, i .1, i .2, ap (λ (l : List ℕ). getD l (i .0) 0) (p .gathered) ∙ i .3)
 
           module _ (st′ wk′ : List ℕ) where
-            tied : UndoubledAll ix st₁ wk₂ n (low / 2) st′ wk′ false → Tied ix st wk st′ wk′
+            tied : UndoubledAll ix st₁ wk₂ m (low / 2) st′ wk′ false → Tied ix st wk st′ wk′
             unfolding x t
             tied u = record {
               steps = let r = falls-steps (rw step at path) in (suc (r .0), one-more x t (d .tying .asked) (r .1));
@@ -214,7 +229,7 @@ module _ {ix st wk : List ℕ} {low high : ℕ} (d : Tieable ix st wk low high) 
               blocks = blocks-fell sound path moved blocks;
               carried = carried-trans carried fell;
               adds = adds-by (λ g h a b m. listed-carried fell g h) (adds-still adds (falls-adds path));
-              listed = omega (arith, moved .went .blocksEnd, p .one, k .beside .blocksEnd);
+              listed = omega (arith, moved .went .blocksEnd, p .one, beside .blocksEnd);
               fewer = omega (arith, moved .went .fewer, j .fewer);
             }
               where
@@ -232,12 +247,12 @@ module _ {ix st wk : List ℕ} {low high : ℕ} (d : Tieable ix st wk low high) 
                     let g = formula-mem ix m in
                     elim (decLe 2 (mentions (low / 2) (standing (stateIn st₁) c))) [
                       | yes e ↦
-                          let v : Once ix st′ (low / 2) (g .0) = u .once refl (g .0) (twice-gathered (g .0) (g .1) (rw (g .2) at m) (rw (g .2) at (falls-wide path c w)) (rw (g .2) at e)) in
+                          let v : Once ix st′ (low / 2) (g .0) = u .once refl (g .0) (twice-kept (g .0) (g .1) (rw (g .2) at m) (rw (g .2) at (falls-wide path c w)) (rw (g .2) at e)) in
                           rw (g .2) (v (rw (g .2) at w))
                       | no e ↦ omega (arith, falls-mentions path c (low / 2) (omega (arith, d .tying .opened)))
                     ]
 
-            pub tying-done : (b : Bool) → UndoubledAll ix st₁ wk₂ n (low / 2) st′ wk′ b → TieOf ix st wk st′ wk′ b
+            pub tying-done : (b : Bool) → UndoubledAll ix st₁ wk₂ m (low / 2) st′ wk′ b → TieOf ix st wk st′ wk′ b
             unfolding x t
             tying-done true u = (died-after (one-more x t (d .tying .asked) none-left) (rw step at (u .fell .0)), u .fell .1)
             tying-done false u = tied u

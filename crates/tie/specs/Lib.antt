@@ -1,4 +1,5 @@
 pub mod Turning
 pub mod Listing
 pub mod Doubling
+pub mod Keeping
 pub mod Tying

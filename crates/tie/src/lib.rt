@@ -3,14 +3,18 @@ ghost use mathlib.Core.Path.{_≡_};
 ghost use Prim.Native.Nat.{_+_, _*_, _/_, _<_, _≤_};
 ghost use lib.Dec.{eqb};
 ghost use Rattle.general.specs.Booleans.{bit};
-ghost use Rattle.literal.specs.Literal.{codeOf, literalAt, maxVariables};
+ghost use Rattle.literal.specs.Literal.{codeOf, literalAt, maxVariables, maxClauses};
 ghost use Rattle.theory.specs.State.{replace};
+ghost use Rattle.occurrences.specs.Index.{Indexed, clauseCount};
 ghost use Rattle.tally.specs.Tally.{tallyOf};
 ghost use Rattle.notes.specs.Notes.{notesOf, Whole, maxBlocks};
+ghost use Rattle.gather.specs.Gathering.{AtRoot};
 ghost use Rattle.tie.specs.Turning.{Turnable, Turned, Joined, withSwapped};
 ghost use Rattle.tie.specs.Listing.{blockBetween, ListedBy};
 ghost use Rattle.tie.specs.Doubling.{stood, Signable, Doubling, Undoubled, DoublingAll, UndoubledAll, OpenRoot, DoublesOf};
+ghost use Rattle.tie.specs.Keeping.{isLong, Stamps, Stamped, StampedBy, WideWith, StampedAll, Keeping, Kept};
 ghost use Rattle.tie.specs.Tying.{Tieable, TieOf};
+use literal::Literal;
 use notes::Block;
 use notes::Notes;
 use occurrences::Index;
@@ -91,6 +95,87 @@ pub fn doubles_at(index: &Index, state: &mut Tally, work: &mut Notes, r: u16) ->
 {
     let n = gather::gather(index, state, work, r);
     undoubles(index, state, work, n, r)
+}
+
+// Where both classes stand ---------------------------------------------------------------------------------------------
+
+// So many literals of a clause are read faster than stamps are set.
+const SHORT: usize = 5;
+
+// 1 for a clause that is stamped, 0 for any other.
+type Stamps = [u8; Literal::MAX_CLAUSES];
+
+// Whether clause g has more literals than that.
+fn is_long(index: &Index, g: usize) -> bool
+    requires { ⌜ Indexed (now index) ⌝ }
+    requires { ⌜ g < clauseCount (now index) ⌝ }
+    ensures { λ b. ⌜ b ≡ isLong (now (index .entry)) g ⌝ }
+{
+    let start = occurrences::start_of(index, g);
+    let end = occurrences::end_of(index, g);
+    SHORT < end - start
+}
+
+// Stamps the clauses that hold variable p.
+fn stamp_variable(index: &Index, stamps: &mut Stamps, p: usize)
+    requires { ⌜ Indexed (now index) ⌝ }
+    requires { ⌜ p ≤ maxVariables ⌝ }
+    requires { ⌜ Stamps (now stamps) ⌝ }
+    ensures { λ _. ⌜ StampedBy (now (index .entry)) (now (stamps .entry)) p (now (stamps .exit)) ⌝ }
+{
+    let first = occurrences::first_of(index, p);
+    let last = occurrences::first_of(index, p + 1);
+    for j in first..last {
+        let g = occurrences::occurrence_at(index, j) / 2;
+        stamps[g as usize] = 1;
+    }
+}
+
+// Stamps the clauses that hold the class of root r.
+fn stamp_class(index: &Index, state: &Tally, r: u16) -> Stamps
+    requires { ⌜ AtRoot (now index) (now state) r ⌝ }
+    ensures { λ s. ⌜ StampedAll (now (index .entry)) (now (state .entry)) r s ⌝ }
+{
+    let mut stamps = [0u8; Literal::MAX_CLAUSES];
+    let mut p = tally::link_of(state, r as usize) as usize;
+    loop {
+        stamp_variable(index, &mut stamps, p);
+        if p == r as usize {
+            return stamps;
+        }
+        p = tally::link_of(state, p) as usize;
+    }
+}
+
+// Brings the stamped ones of the first n gathered clauses to the front, and says how many there are. A clause without a stamp is overwritten.
+fn keep_stamped(work: &mut Notes, n: usize, stamps: &Stamps) -> usize
+    requires { ⌜ Keeping (now work) maxClauses n ⌝ }
+    requires { ⌜ Stamps (now stamps) ⌝ }
+    ensures { λ m. ⌜ Kept (Stamped (now (stamps .entry))) (now (work .entry)) n (now (work .exit)) m ⌝ }
+{
+    let mut end = 0;
+    for i in 0..n {
+        let g = notes::gathered_at(work, i);
+        notes::put_gathered(work, end, g);
+        end += stamps[g as usize] as usize;
+    }
+    end
+}
+
+// Of the first n gathered clauses those that hold the class of root r too, or all where they are short; says how many are left.
+fn keep_both(index: &Index, state: &Tally, work: &mut Notes, n: usize, r: u16) -> usize
+    requires { ⌜ AtRoot (now index) (now state) r ⌝ }
+    requires { ⌜ Keeping (now work) (clauseCount (now index)) n ⌝ }
+    ensures { λ m. ⌜ Kept (WideWith (now (index .entry)) (now (state .entry)) r) (now (work .entry)) n (now (work .exit)) m ⌝ }
+{
+    if n == 0 {
+        return 0;
+    }
+    if is_long(index, notes::gathered_at(work, 0) as usize) {
+        let stamps = stamp_class(index, state, r);
+        return keep_stamped(work, n, &stamps);
+    }
+    n
 }
 
 // Ties ---------------------------------------------------------------------------------------------------------------
@@ -179,8 +264,9 @@ pub fn tie(index: &Index, state: &mut Tally, work: &mut Notes, low: u16, high: u
     ensures { λ b. ⌜ TieOf (now (index .entry)) (now (state .entry)) (now (work .entry)) (now (state .exit)) (now (work .exit)) b ⌝ }
 {
     let n = gather::gather(index, state, work, high / 2);
+    let both = keep_both(index, state, work, n, low / 2);
     let block = block_between(state, high / 2, low / 2);
     join(state, high, tally::opposite(low));
     list_block(work, n, block);
-    undoubles(index, state, work, n, low / 2)
+    undoubles(index, state, work, both, low / 2)
 }
