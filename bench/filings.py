@@ -391,6 +391,18 @@ def joined(classes, half, size, switched=True):
     return name.filing(groups)
 
 
+def scattered(classes, members, groups, rest, switched=True):
+    """Every group holds one member of each class, and a switch, or the start, ties all members of all classes."""
+    name = Namer()
+    switch = [name("switch")] if switched else []
+    member = [[name("class", j, i) for i in range(members)] for j in range(classes)]
+    made = [switch + [first, -other] for first, *others in member for other in others]
+    for k in range(groups):
+        held = [of[(k + 3 * j) % members] for j, of in enumerate(member)]
+        made.append(held + [name("rest", (k + i) % 17) for i in range(rest)])
+    return name.filing(made)
+
+
 def sinking(count, switched=True):
     """A switch, left out, ties neighbours by rule 6, the highest first: with each tie the whole class gets a new, lower
     root."""
@@ -452,7 +464,9 @@ WORST = {
     "lateties": lambda: late_ties(80, 348),
     "joined3": lambda: joined(3, 250, 4),
     "joined30": lambda: joined(30, 31, 31),
+    "joined80": lambda: joined(80, 11, 81),
     "joinstart": lambda: joined(3, 250, 4, switched=False),
+    "scattered": lambda: scattered(4, 8, 483, 0),
     "sinking": lambda: sinking(255),
     "sinkstart": lambda: sinking(256, switched=False),
     "released": lambda: released(4, 60),
@@ -507,7 +521,7 @@ def growth():
 
 
 def longest():
-    """Each of the worst filings at some sizes, as long as it stays the same kind."""
+    """The worst filings at some sizes; joined also by classes, with as many groups as the limits allow."""
     series = {}
     for length in (15, 30, 60, 120):
         series["falling-%d" % length] = lambda k=length: falling(1, k, 271 * k // 120)
@@ -517,8 +531,11 @@ def longest():
         series["lateties-%d" % ties] = lambda k=ties: late_ties(k, 348 * k // 80)
     for half in (32, 63, 125, 250):
         series["joined3-%d" % half] = lambda k=half: joined(3, k, 4)
-    for classes in (4, 8, 15, 30):
-        series["joined30-%d" % classes] = lambda k=classes: joined(k, 31, k + 1)
+    for classes in (3, 8, 15, 30, 80):
+        half = min(250, (MOST_ENTRIES - 3 * classes) // (2 * classes + 2))
+        series["joined-%d" % classes] = lambda k=classes, half=half: joined(k, half, k + 1)
+    for groups in (60, 120, 241, 483):
+        series["scattered-%d" % groups] = lambda k=groups: scattered(4, 8, k, 0)
     for count in (32, 64, 128, 255):
         series["sinking-%d" % count] = lambda k=count: sinking(k)
     for size in (8, 15, 30, 60):

@@ -217,6 +217,7 @@ def table(strips, options):
         print_line(table_cells(row, options))
         kinds.setdefault(row["kind"], []).append(row)
     table_foot(list(kinds.values())[-1], options)
+    print("Splits a second are those of the tree: what is remembered counts, walked or not.")
     if options.picture:
         run = picture.figures(list(kinds.values())[0], OUTCOMES, options.limit)
         picture.save(run, FIGURES, options.picture)

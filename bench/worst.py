@@ -22,18 +22,6 @@ BATCH = 8
 
 # Families: the bounds of their numbers, and the table
 
-def scattered(classes, members, groups, rest, switched):
-    """Every group holds one member of each class, and a switch, or the start, ties all members of all classes."""
-    name = filings.Namer()
-    switch = [name("switch")] if switched else []
-    member = [[name("class", j, i) for i in range(members)] for j in range(classes)]
-    made = [switch + [first, -other] for first, *others in member for other in others]
-    for k in range(groups):
-        held = [of[(k + 3 * j) % members] for j, of in enumerate(member)]
-        made.append(held + [name("rest", (k + i) % 17) for i in range(rest)])
-    return name.filing(made)
-
-
 def crossed(classes, half, rest, switched):
     """As filings.joined, but of one class the halves hold opposites, so that every new pair has an entry that crosses
     and no other one in common."""
@@ -79,7 +67,7 @@ FAMILIES = {
     "falling": (filings.falling, [(1, 4), (2, 125), (1, 400), BOTH]),
     "lateties": (filings.late_ties, [(1, 120), (1, 500)]),
     "joined": (filings.joined, [(1, 125), (1, 255), (3, 130), BOTH]),
-    "scattered": (scattered, [(1, 125), (2, 120), (1, 511), (0, 6), BOTH]),
+    "scattered": (filings.scattered, [(1, 125), (2, 120), (1, 511), (0, 6), BOTH]),
     "crossed": (crossed, [(1, 60), (1, 255), (2, 20), BOTH]),
     "sunk": (sunk, [(2, 255), (1, 400), (2, 12), BOTH]),
     "released": (filings.released, [(1, 60), (2, 120)]),
