@@ -126,15 +126,15 @@ fn settle_and_decide(
     if known == 0 {
         return split(index, state, work, memory, p, level, plan, trail);
     }
-    if level.left < known {
+    if known <= level.left {
         return Walk {
-            outcome: Outcome::Stopped,
-            count: level.left,
+            outcome: Outcome::NoLayout,
+            count: known,
         };
     }
     Walk {
-        outcome: Outcome::NoLayout,
-        count: known,
+        outcome: Outcome::Stopped,
+        count: level.left,
     }
 }
 
@@ -202,8 +202,8 @@ fn learn(memory: &mut Memory, held: Held, n: usize, side: Walk, used: u32)
     requires { ⌜ Fits w32 (used + side .count) ⌝ }
     ensures { λ _. ⌜ LearntOf n (used + side .count) (now (memory .entry)) (now (memory .exit)) held (side .outcome) ⌝ }
 {
-    let outcome = side.outcome;
-    let Outcome::NoLayout = outcome else {
+    let end = side.outcome;
+    let Outcome::NoLayout = end else {
         return;
     };
     memo::keep(memory, held, n, used + side.count);

@@ -312,7 +312,7 @@ pub +settle-and-decide+split-spec : {M : Type 1} → statement M
     let e = r .before .before .before .before in
     let s = e .before .before in
     let known : 0 < w .remembered .result = omega (arith, n .if3 .left) in (
-      rw (e .if1 .left) (remembered-stops (s .pre .1 .0 .lasting) (begun t e) (rested-at t r) _ (branches-at t h) (s .pre .1 .1) _ known (w .remembered .ensures .1 known) (c .if4 .taken)),
+      rw (e .if1 .left) (remembered-none (s .pre .1 .0 .lasting) (begun t e) (rested-at t r) _ (branches-at t h) (s .pre .1 .1) _ known (w .remembered .ensures .1 known) (c .if4 .taken)),
       (rested-at t r .sound .whole, remembered-spared (s .pre .1 .1) _ (w .remembered .ensures .0)),
     ))
     (λ c.
@@ -323,7 +323,7 @@ pub +settle-and-decide+split-spec : {M : Type 1} → statement M
     let e = r .before .before .before .before in
     let s = e .before .before in
     let known : 0 < w .remembered .result = omega (arith, n .if3 .left) in (
-      rw (e .if1 .left) (remembered-none (s .pre .1 .0 .lasting) (begun t e) (rested-at t r) _ (branches-at t h) (s .pre .1 .1) _ known (w .remembered .ensures .1 known) (c .if4 .left)),
+      rw (e .if1 .left) (remembered-stops (s .pre .1 .0 .lasting) (begun t e) (rested-at t r) _ (branches-at t h) (s .pre .1 .1) _ known (w .remembered .ensures .1 known) (c .if4 .left)),
       (rested-at t r .sound .whole, remembered-spared (s .pre .1 .1) _ (w .remembered .ensures .0)),
     )))
     (λ t. split-lts.spec (split-calls t) (split-at t) split.Post
@@ -392,7 +392,7 @@ pub +settle-and-decide+split-spec : {M : Type 1} → statement M
     let f = earlier t b in
     let h = holds t (second t b) in (
       held-keepable (origin t f .pre .1 .0) (first-remembered t f) (second-remembered t b) (h .hold .result) (h .hold .ensures),
-      side-fits t b,
+      omega (arith, side-fits t b),
     ))
     (λ c κs.
     let b = c .before .before .before .before .before .before in
