@@ -1,0 +1,33 @@
+-- `begin` meets its contract.
+use borrow.Author.Needs.{needs}
+use native.Mathlib.Omega.{arith}
+use mathlib.Core.Path.{_∙_}
+use Prim.Native.Nat.{ℕ, _+_, _/_, _≤_, _<_}
+use native.Mathlib.Nat.{div-le-self, le-div-iff-mul-le}
+use lib.ListN.{length-set}
+use Rattle.literal.specs.Literal.{maxVariables}
+use Rattle.memo.proofs.Filling.{begun-empty}
+use Rattle.memo.proofs.begin.Statement.{statement}
+use Rattle.memo.proofs.begin.Tie as tie
+
+-- there is room for a slot
+slots : (n : ℕ) → n ≤ maxVariables → 0 < 65017 / (n + 4)
+slots n h = le-div-iff-mul-le {k = n + 4} {x = 1} {y = 65017} (omega arith) .1 (omega arith)
+
+pub begin-spec : {M : Type 1} → statement M
+begin-spec = tie.close (tie.spec
+    (λ c κs. search needs)
+    (λ c κs. search needs)
+    (λ c. search needs)
+    (λ c. omega (arith, c .before .before .before .pre .0))
+    (λ c. search needs)
+    (λ c κs. slots (c .before .before .before .args .n) (c .before .before .before .pre .0))
+    (λ c. omega (arith, c .from-one2 .ensures .1, div-le-self 65017 (c .before .before .before .before .args .n + 4)))
+    (λ c. search needs)
+    (λ c κs.
+    let w = c .before .before .put-weights .ensures in
+    (omega arith, length-set (c .before .before .put-weights .last .0) 257 (c .before .from-one2 .result) ∙ w .long ∙ c .before .before .before .before .before .pre .1 .long))
+    (λ c.
+    let k = c .before .before .from-one2 .ensures in
+    let a = c .before .before .before .before .before .before .pre in
+    begun-empty (a .0) (a .1) (c .before .before .before .put-weights .ensures) (k .0) (k .1) _ (c .put-number .ensures)))
