@@ -1,28 +1,27 @@
 -- What a slot is after it was begun, looked at, held and kept.
-use mathlib.Core.Path.{_≡_, refl, ap, sym, _∙_}
-use mathlib.Core.Bool.{true, false}
+use mathlib.Core.Path.{_≡_, ap, sym, _∙_}
 use mathlib.Core.Logic.{inl, inr}
 use mathlib.Core.List.{List}
-use Prim.Native.Nat.{ℕ, suc, _+_, _*_, _-_, _/_, _%_, _≤_, _<_}
+use Prim.Native.Nat.{ℕ, suc, _+_, _*_, _-_, _/_, _≤_, _<_}
 use native.Mathlib.Nat.{mul-le-mul-right, div-mul-le-self}
 use native.Mathlib.Omega.{arith}
 use borrow.Author.Tests.{le-leb, lt-leb}
-use lib.Dec.{leb}
-use lib.ListN.{length, getD, set, length-set}
-use lib.Seq.{getD-set-same, getD-set-other}
-use Rattle.general.specs.Lists.{from, from-same}
+use lib.ListN.{getD, set, length-set}
+use lib.Seq.{getD-set-same}
+use Rattle.general.specs.Lists.{from-same}
 use Rattle.literal.specs.Literal.{variables, maxVariables}
 use Rattle.theory.specs.State.{State}
-use Rattle.theory.specs.Memo.{key, Slot, Elsewhere}
-use Rattle.memo.specs.Memory.{countAt, heldFrom, creditAt, slotsFrom, memorySize, splitsIn, variableIn, keyIn, pending, slotAt, numberIn, slotIn, slotsOf, slotCount, Sized, Keying, Cleared, Empty, Outside, Spared, Numbered, KeyAt, Placing, Keyed, Found, Changed, Taken, Holding, Learning}
-use Rattle.memo.proofs.Slots.{outside-set, outside-wider, outside-trans, outside-changed, slot-before, slot-from, slot-same, slot-alone, spared-changed, spared-slots}
+use Rattle.theory.specs.Memo.{key, Slot}
+use Rattle.memo.specs.Memory.{countAt, heldFrom, creditAt, slotsFrom, memorySize, slotRoom, splitsIn, variableIn, keyIn, pending, slotAt, numberIn, slotIn, slotCount}
+use Rattle.memo.specs.Memory.{Sized, Keying, Cleared, Empty, Outside, Spared, Numbered, KeyAt, Placing, Keyed, Found, Changed, Taken, Holding, Learning}
+use Rattle.memo.proofs.Slots.{outside-set, outside-wider, outside-trans, outside-changed, slot-before, slot-from, slot-alone, spared-changed, spared-slots}
 
 -- a slot is inside the array
 pub slot-room : {n : ℕ} {m : List ℕ} → Sized n m → (i : ℕ) → i < slotCount m → slotAt n i + (n + keyIn) ≤ memorySize
 slot-room {n} {m} s i h = omega (arith, slot-before n i (slotCount m) h, s .room)
 
 -- nothing is known in an array of zeros, whatever its weights
-pub begun-empty : {n k : ℕ} {m m₁ m₂ : List ℕ} → n ≤ maxVariables → Cleared m → Outside 0 variables m m₁ → 0 < k → k ≤ 65017 / (n + keyIn) → (x : ℕ) →
+pub begun-empty : {n k : ℕ} {m m₁ m₂ : List ℕ} → n ≤ maxVariables → Cleared m → Outside 0 variables m m₁ → 0 < k → k ≤ slotRoom / (n + keyIn) → (x : ℕ) →
     Numbered creditAt x (set m₁ countAt k) m₂ → Empty n m₂
 unfolding slotAt
 begun-empty {n} {k} {m} {m₁} {m₂} small z o some most x c =
@@ -35,7 +34,7 @@ begun-empty {n} {k} {m} {m₁} {m₂} small z o some most x c =
         small = small;
         long = rest .long ∙ z .long;
         some = omega (arith, count);
-        room = rw count (omega (arith, mul-le-mul-right (n + keyIn) most, div-mul-le-self 65017 (n + keyIn)));
+        room = rw count (omega (arith, mul-le-mul-right (n + keyIn) most, div-mul-le-self slotRoom (n + keyIn)));
       };
       nothing = λ i l.
           let b = slotsFrom + i * (n + keyIn) in

@@ -1,12 +1,12 @@
 -- What the memo says of a formula stays true, through marks and numbers and through a split.
-use mathlib.Core.Path.{_≡_, refl, ap, sym, _∙_}
+use mathlib.Core.Path.{_≡_, refl, ap, _∙_}
 use mathlib.Core.Bool.{true}
 use mathlib.Core.List.{List}
 use Prim.Native.Nat.{ℕ, _<_}
 use native.Mathlib.Omega.{arith}
 use Rattle.theory.specs.Formula.{Formula}
 use Rattle.theory.specs.State.{State}
-use Rattle.theory.specs.Memo.{key, Slot, Known, Learned, Kept, Elsewhere}
+use Rattle.theory.specs.Memo.{key, Slot, Known, Kept}
 use Rattle.theory.proofs.Memo.{learned-nothing, learned-put, kept-refl, kept-trans, kept-split}
 use Rattle.memo.specs.Memory.{slotsOf, slotCount, Empty, Spared, Holding, Learning, Remembering, Remembered}
 use Rattle.memo.proofs.Slots.{spared-changed, spared-slots}

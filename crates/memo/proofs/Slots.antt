@@ -1,18 +1,16 @@
 -- Slots stand apart in the array: what is written outside of one leaves it as it was.
-use mathlib.Core.Path.{_≡_, refl, ap, sym, _∙_}
-use mathlib.Core.Bool.{true, false}
-use mathlib.Core.Logic.{_⊎_, inl, inr, ⊎-elim, _≢_}
+use mathlib.Core.Path.{_≡_, refl, _∙_}
+use mathlib.Core.Logic.{_⊎_, inl, inr, ⊎-elim}
 use mathlib.Core.List.{List}
-use Prim.Native.Nat.{ℕ, suc, _+_, _*_, _-_, _/_, _%_, _≤_, _<_}
+use Prim.Native.Nat.{ℕ, _+_, _-_, _/_, _%_, _≤_, _<_}
 use native.Mathlib.Decide.{decLt}
 use native.Mathlib.Nat.{mul-le-mul-right, suc-mul}
 use native.Mathlib.Omega.{arith}
-use lib.Dec.{leb}
 use lib.ListN.{length, getD, set, length-set}
 use lib.Seq.{getD-set-same, getD-set-other}
-use Rattle.general.specs.Lists.{from, from-same}
-use Rattle.theory.specs.Memo.{Slot, Elsewhere}
-use Rattle.memo.specs.Memory.{countAt, heldFrom, slotsFrom, memorySize, variableIn, keyIn, slotAt, slotIn, slotsOf, slotCount, Sized, Outside, Spared, Numbered, Changed}
+use Rattle.general.specs.Lists.{from-same}
+use Rattle.theory.specs.Memo.{Elsewhere}
+use Rattle.memo.specs.Memory.{countAt, slotsFrom, memorySize, keyIn, slotAt, slotIn, slotsOf, slotCount, Sized, Outside, Spared, Numbered, Changed}
 
 -- what was written -------------------------------------------------------------------------------------------------
 

@@ -1,6 +1,6 @@
 -- The memo as code keeps it, one array: weights of the hash, how many slots there are, marks and numbers that promise nothing, and the slots.
 use mathlib.Core.Path.{_≡_}
-use mathlib.Core.Bool.{Bool, true, false}
+use mathlib.Core.Bool.{true, false}
 use mathlib.Core.Logic.{_⊎_}
 use mathlib.Core.List.{List}
 use Prim.Native.Nat.{ℕ, suc, _+_, _*_, _-_, _≤_, _<_}
@@ -33,6 +33,9 @@ slotsFrom = walkedAt + 2
 abbrev pub memorySize : ℕ
 memorySize = 65536
 
+abbrev pub slotRoom : ℕ
+slotRoom = memorySize - slotsFrom
+
 -- inside a slot: its tag, the splits as two words, the variable, the key
 abbrev pub splitsIn : ℕ
 splitsIn = 1
@@ -46,6 +49,16 @@ keyIn = 4
 -- a tag from here on is of a slot that is held
 abbrev pub pending : ℕ
 pending = 32768
+
+-- what bounds the weights, what may be spent, and what a word adds to the hash
+abbrev pub spreadMost : ℕ
+spreadMost = 4096
+
+abbrev pub creditMost : ℕ
+creditMost = 2000000
+
+abbrev pub shareMost : ℕ
+shareMost = 1023 * 8191
 
 -- where slot i begins, for n variables
 unfoldable pub slotAt : ℕ → ℕ → ℕ
@@ -157,7 +170,7 @@ abbrev pub HoldOf : (n p : ℕ) → State → (m m′ : List ℕ) → Held → T
 HoldOf n p s m m′ (In j) = Holding n p s m m′ j
 HoldOf n p s m m′ Nowhere = Spared m m′
 
--- slot j, which was held, has c splits
+-- slot j, which was held, now has c splits
 pub record Learning (n c : ℕ) (m m′ : List ℕ) (j : ℕ) : Type 0 where
   pub changed : Changed n m m′
   pub others : Elsewhere (slotCount m) j (slotsOf n m) (slotsOf n m′)
@@ -169,9 +182,9 @@ abbrev pub KeepOf : (n c : ℕ) → (m m′ : List ℕ) → Held → Type 0
 KeepOf n c m m′ (In j) = Learning n c m m′ j
 KeepOf n c m m′ Nowhere = m′ ≡ m
 
-abbrev pub Keepable : ℕ → List ℕ → Held → Type 0
-Keepable n m (In j) = Sized n m × (j < slotCount m)
-Keepable n m Nowhere = m ≡ m
+pub record Keepable (n : ℕ) (m : List ℕ) (held : Held) : Type 0 where
+  pub sized : Sized n m
+  pub inside : (j : ℕ) → held ≡ In j → j < slotCount m
 
 -- what the slots say of the formula f is true
 pub record Remembering (n : ℕ) (f : Formula) (m : List ℕ) : Type 0 where

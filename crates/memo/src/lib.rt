@@ -1,12 +1,14 @@
-// The memo of a search: keys of splits that have no layout, each with the splits of its subtree.
+// The memo of a search: splits that have no layout, each with the splits of its subtree. A split is known by its variable and its key, what the variables
+// from there on stand for. Keys are compared whole; the hash only picks a slot.
 ghost use mathlib.Core.Path.{_≡_};
-ghost use mathlib.Core.Bool.{true, false};
+ghost use mathlib.Core.Bool.{true};
 ghost use Prim.Native.Nat.{_+_, _≤_, _<_};
 ghost use lib.ListN.{getD, length};
 ghost use Rattle.literal.specs.Literal.{variables, maxVariables};
 ghost use Rattle.theory.specs.Memo.{word};
 ghost use Rattle.tally.specs.Tally.{stateIn};
-ghost use Rattle.memo.specs.Memory.{memorySize, slotAt, numberIn, slotCount, Sized, Keying, Cleared, Empty, Outside, Spared, Numbered, KeyAt, Placing, Keyed, Found, Taken, HoldOf, KeepOf, Keepable};
+ghost use Rattle.memo.specs.Memory.{memorySize, pending, spreadMost, creditMost, shareMost, slotAt, numberIn, slotCount};
+ghost use Rattle.memo.specs.Memory.{Keying, Cleared, Empty, Outside, Spared, Numbered, KeyAt, Placing, Keyed, Found, Taken, HoldOf, KeepOf, Keepable};
 use literal::Literal;
 use tally::Tally;
 
@@ -81,6 +83,7 @@ fn at_most(x: u32, most: u32) -> u32
     if x < most { x } else { most }
 }
 
+// x, from 1 to `most`.
 fn from_one(x: usize, most: usize) -> usize
     requires { ⌜ 0 < most ⌝ }
     ensures { λ r. ⌜ (0 < r) × (r ≤ most) ⌝ }
@@ -119,7 +122,7 @@ fn put_number(memory: &mut Memory, i: usize, x: u32)
 }
 
 fn credit_of(memory: &Memory) -> u32
-    ensures { λ r. ⌜ r ≤ 2000000 ⌝ }
+    ensures { λ r. ⌜ r ≤ creditMost ⌝ }
 {
     at_most(number_at(memory, CREDIT), MOST_CREDIT)
 }
@@ -142,10 +145,10 @@ pub fn walked(memory: &Memory) -> u32 {
 
 // The beginning ----------------------------------------------------------------------------------------------------
 
-// Odd weights below 2 * spread.
+// Odd weights below 2 * spread, by a generator of remainders.
 fn put_weights(memory: &mut Memory, spread: usize)
     requires { ⌜ 0 < spread ⌝ }
-    requires { ⌜ spread ≤ 4096 ⌝ }
+    requires { ⌜ spread ≤ spreadMost ⌝ }
     ensures { λ _. ⌜ Outside 0 variables (now (memory .entry)) (now (memory .exit)) ⌝ }
 {
     let mut x: usize = 12345;
@@ -179,7 +182,7 @@ fn word(value: u16, p: usize) -> u16
 
 // What a word adds to the hash. The remainders change nothing; they keep the sum in its range.
 fn share(word: u16, weight: u16) -> u32
-    ensures { λ r. ⌜ r ≤ 8379393 ⌝ }
+    ensures { λ r. ⌜ r ≤ shareMost ⌝ }
 {
     ((word % 1024) as u32) * ((weight % 8192) as u32)
 }
@@ -237,9 +240,9 @@ fn slot_of(memory: &Memory, h: u32) -> usize
 }
 
 fn tag_of(h: u32) -> u16
-    ensures { λ r. ⌜ r < 32768 ⌝ }
+    ensures { λ r. ⌜ r < pending ⌝ }
 {
-    (h % 32768) as u16
+    (h % (PENDING as u32)) as u16
 }
 
 // Where a slot begins.
@@ -315,7 +318,7 @@ fn pay(memory: &mut Memory, splits: u32) -> bool
 fn take(memory: &mut Memory, state: &Tally, slot: usize, tag: u16, p: usize, n: usize)
     requires { ⌜ Keying n p (now memory) ⌝ }
     requires { ⌜ slot < slotCount (now memory) ⌝ }
-    requires { ⌜ tag < 32768 ⌝ }
+    requires { ⌜ tag < pending ⌝ }
     ensures { λ _. ⌜ Taken n p (stateIn (now (state .entry))) (now (memory .entry)) (now (memory .exit)) slot ⌝ }
 {
     let base = base_of(slot, n);

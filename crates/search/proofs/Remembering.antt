@@ -1,5 +1,5 @@
 -- What a walk answers from the memo, and what a split makes known to it.
-use mathlib.Core.Path.{_≡_, refl, ap, sym, _∙_}
+use mathlib.Core.Path.{_≡_, ap, sym, _∙_}
 use mathlib.Core.Bool.{cond}
 use mathlib.Core.List.{List, []}
 use mathlib.Core.Option.{none, some}
@@ -14,7 +14,7 @@ use Rattle.theory.specs.Formula.{Formula}
 use Rattle.theory.specs.Propagation.{step}
 use Rattle.theory.specs.Search.{branchVariable, treeFrom}
 use Rattle.theory.specs.Tree.{result, stop, limited}
-use Rattle.theory.specs.Memo.{key, SplitsOn, Slot, Known}
+use Rattle.theory.specs.Memo.{key, Slot, Known}
 use Rattle.theory.proofs.AtRest.{rests-step, counted-rests}
 use Rattle.theory.proofs.Memo.{settled-splits, settled-tree, known-answers, walk-known}
 use Rattle.occurrences.specs.Index.{formulaOf}
@@ -79,8 +79,8 @@ module _ {ix st wk : List ℕ} {p : ℕ} {l : Level} {plan : List ℕ} {trail : 
 
     module _ {m₃ : List ℕ} (y : Remembered n f m₂ m₃) where
       pub held-keepable : (held : Held) → HoldOf n p (stateIn st) m₁ m₂ held → Keepable n m₃ held
-      held-keepable (In j) h = (y .remembering .sized, rw (y .count ∙ h .taken .changed .count) (h .inside))
-      held-keepable Nowhere h = refl
+      held-keepable (In j) h = record { sized = y .remembering .sized; inside = λ i e. let q : j ≡ i = cc e in rw (← q, y .count ∙ h .taken .changed .count) (h .inside) }
+      held-keepable Nowhere h = record { sized = y .remembering .sized; inside = λ i e. let z : _≡_ {A = ℕ} 0 1 = cc e in absurd (omega arith) }
 
       -- the whole split, whose walk is w
       pub split-remembered : (w : Walked) → w ≡ splitWalk p l ix st plan trail → (held : Held) → HoldOf n p (stateIn st) m₁ m₂ held → (m₄ : List ℕ) → (o : Outcome) → w .walk .outcome ≡ o →

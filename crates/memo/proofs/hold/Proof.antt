@@ -1,10 +1,9 @@
 -- `hold` meets its contract.
 use borrow.Author.Needs.{needs}
 use native.Mathlib.Omega.{arith}
-use denote.Ref.{now}
 use Rattle.memo.specs.Memory.{Keying}
 use Rattle.memo.proofs.Slots.{spared-changed}
-use Rattle.memo.proofs.Filling.{slot-room, slot-placing, slot-holding}
+use Rattle.memo.proofs.Filling.{slot-room, slot-holding}
 use Rattle.memo.proofs.hold.Statement.{statement}
 use Rattle.memo.proofs.hold.Tie as tie
 
@@ -19,7 +18,9 @@ hold-spec = tie.close (tie.spec
     (λ c κs. keying (c .before .before))
     (λ c κs. keying (c .before .before .before .before) .sized .some)
     (λ c κs. let z = keying (c .before .before .before .before .before) .sized in (z .small, omega (arith, slot-room z (c .slot-of .result) (c .slot-of .ensures))))
-    (λ c κs. let s = c .before .before in omega (arith, slot-room (keying (s .before .before .before .before .before) .sized) (s .slot-of .result) (s .slot-of .ensures), c .before .base-of .ensures))
+    (λ c κs.
+    let s = c .before .before in
+    omega (arith, slot-room (keying (s .before .before .before .before .before) .sized) (s .slot-of .result) (s .slot-of .ensures), c .before .base-of .ensures))
     (λ c. c .before .before .before .before .before .before .before .before .before .pay .ensures)
     (λ c κs. search needs)
     (λ c κs. (keying (c .before .before .before .before .before .before .before .before .before .before .before), (c .before .before .before .before .before .before .slot-of .ensures, c .tag-of .ensures)))

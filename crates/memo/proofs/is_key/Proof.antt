@@ -45,8 +45,14 @@ is-key-spec = tie.close (tie.spec
     (λ c κs. omega (arith, c .before .before .before .before .before .pre .small))
     (λ c κs. omega (arith, c .before .before .before .before .before .before .pre .inside, c .before .before .before .before .before .before .pre .small))
     (λ c κs. search needs)
-    (λ c. omega (arith, c .before .before .before .before .before .loop .inv .1, c .differ2 .ensures .0, c .before .before .before .before .before .before .before .before .pre .small, c .before .before .before .before .before .before .before .before .pre .positive))
+    (λ c.
+    let l = c .before .before .before .before .before in
+    let k = l .before .before .before .pre in
+    omega (arith, l .loop .inv .1, c .differ2 .ensures .0, k .small, k .positive))
     (λ c. search needs)
     (λ c. search needs)
     (λ c. again c)
-    (λ c e. let l = c .before .loop in let a = c .before .before .before .before in keyed-all _ _ _ _ _ _ (a .pre .small) (a .pre .inside) (c .loop-test .left) (l .inv .2 (eqb-true _ _ e))))
+    (λ c e.
+    let l = c .before .loop in
+    let a = c .before .before .before .before in
+    keyed-all _ _ _ _ _ _ (a .pre .small) (a .pre .inside) (c .loop-test .left) (l .inv .2 (eqb-true _ _ e))))

@@ -11,7 +11,7 @@ use Rattle.memo.proofs.keep.Statement.{statement}
 use Rattle.memo.proofs.keep.Tie as tie
 
 kept : (c : tie.After-held) → let a = c .before .before .args in Sized (a .n) (now (a .memory)) × (c .held .given .0 .0 < slotCount (now (a .memory)))
-kept c = rw (c .held .given .1) at (c .before .before .pre)
+kept c = let k = c .before .before .pre in (k .sized, k .inside _ (c .held .given .1))
 
 room : (c : tie.After-base-of) → c .base-of .result + (c .before .before .before .before .args .n + keyIn) ≤ memorySize
 room c = let k = kept (c .before .before) in rw (c .base-of .ensures) (slot-room (k .0) _ (k .1))

@@ -24,5 +24,6 @@ look-spec = tie.close (tie.spec
     (λ c h.
     let b = c .before .before .before .before .before .before in
     let s = b .before in
-    slot-found (s .before .before .pre) _ (s .slot-of .result) (s .slot-of .ensures) (b .base-of .result) (b .base-of .ensures) (c .before .before .is-key .ensures (c .before .if2 .taken)) _ (c .number-at .ensures))
+    slot-found (s .before .before .pre) _ (s .slot-of .result) (s .slot-of .ensures) (b .base-of .result) (b .base-of .ensures)
+    (c .before .before .is-key .ensures (c .before .if2 .taken)) _ (c .number-at .ensures))
     (λ c h. absurd (omega arith)))

@@ -34,5 +34,8 @@ put-key-spec = tie.close (tie.spec
     (λ c. omega (arith, c .before .before .before .before .pre .room, c .before .before .before .before .pre .positive))
     (λ c. search needs)
     (λ c. search needs)
-    (λ c. let l = c .before .before .before in (omega arith, writing-goes (l .before .pre) _ _ (l .loop .j) _ (l .loop .inv .1) (c .before .before .loop-test .taken) (c .word .ensures ∙ ap (word (l .before .args .p)) (c .before .value-of .ensures))))
+    (λ c.
+    let l = c .before .before .before in
+    let e = c .word .ensures ∙ ap (word (l .before .args .p)) (c .before .value-of .ensures) in
+    (omega arith, writing-goes (l .before .pre) _ _ (l .loop .j) _ (l .loop .inv .1) (c .before .before .loop-test .taken) e))
     (λ c. writing-ends (c .before .before .pre) _ _ _ (c .before .loop .inv .1) (c .loop-test .left)))

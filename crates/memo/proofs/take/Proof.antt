@@ -1,5 +1,4 @@
 -- `take` meets its contract.
-use borrow.Author.Needs.{needs}
 use native.Mathlib.Omega.{arith}
 use mathlib.Core.Path.{_≡_, _∙_}
 use Prim.Native.Nat.{_+_}
@@ -15,7 +14,9 @@ placed c = slot-placing (c .before .pre .0) (c .before .args .slot) (c .before .
 
 -- the mark and the tag keep the array's length
 long : (c : tie.After-base-of) → let a = c .before .args in length (set (set (a .memory .now) (heldFrom + a .p) 1) (c .base-of .result) (a .tag + pending)) ≡ memorySize
-long c = let a = c .before .args in length-set (set (a .memory .now) (heldFrom + a .p) 1) (c .base-of .result) (a .tag + pending) ∙ length-set (a .memory .now) (heldFrom + a .p) 1 ∙ c .before .pre .0 .sized .long
+long c =
+    let a = c .before .args in
+    length-set (set (a .memory .now) (heldFrom + a .p) 1) (c .base-of .result) (a .tag + pending) ∙ length-set (a .memory .now) (heldFrom + a .p) 1 ∙ c .before .pre .0 .sized .long
 
 pub take-spec : {M : Type 1} → statement M
 take-spec = tie.close (tie.spec

@@ -1,6 +1,4 @@
 -- `word` meets its contract.
-use Prim.Native.Nat.{_*_}
-use native.Mathlib.Omega.{arith}
 use borrow.Author.Needs.{needs}
 use borrow.Author.Tests.{lt-ltb, le-ltb}
 use Rattle.memo.proofs.word.Statement.{statement}
