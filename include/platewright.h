@@ -35,7 +35,7 @@ extern "C" {
 #define PLATEWRIGHT_VERSION_MINOR 7
 #define PLATEWRIGHT_VERSION_PATCH 0
 
-/* The stack that a call needs at most, in bytes: a search may go 254 splits deep. */
+/* The stack that a call needs at most, in bytes: a search may go 254 splits deep, and remembers parts of its tree. */
 #define PLATEWRIGHT_STACK (1024 * 1024)
 
 /* The limits of a set, over the whole table. */
@@ -141,8 +141,9 @@ platewright_answer platewright_check_end(platewright_pass pass);
 
 /* SEARCH. The first layout. 0, laid out: the first n bytes of the plan become the choice, 1 taken and 0 left out; the
  * first n of the trail become the splits on the path to it, +p taken and -p left out, in order, then zeros. 10, no
- * layout, and 11, stopped: the first n of both become 0. The count is the number of splits made, of a stop the
- * allowance. A search that finishes answers alike with every larger allowance. Refusals: 1 to 5, 6, 7. */
+ * layout, and 11, stopped: the first n of both become 0. The count is the number of splits of the tree (those of a
+ * part that is remembered count too), of a stop the allowance. A search that finishes answers alike with every larger
+ * allowance. Refusals: 1 to 5, 6, 7. */
 platewright_answer platewright_search(const int16_t *table, size_t table_len, size_t n, uint32_t allowance,
                                       uint8_t *plan, size_t plan_len, int16_t *trail, size_t trail_len);
 
