@@ -25,7 +25,7 @@ use Rattle.moves.specs.Sound.{Sound}
 use Rattle.moves.specs.Moving.{Went}
 use Rattle.moves.proofs.Moves.{went-refl, went-trans}
 use Rattle.engine.proofs.Along.{within-indexed}
-use Rattle.tie.specs.Doubling.{OnceIn, DoublesOf}
+use Rattle.undouble.specs.Doubling.{OnceIn, DoublesOf}
 use Rattle.start.specs.Undoubling.{Undoubling, WrittenOnce, UndoubledBelow}
 use Rattle.start.proofs.Initial.{mentions-initial}
 

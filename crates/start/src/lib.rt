@@ -9,7 +9,7 @@ ghost use Rattle.literal.specs.Literal.{maxVariables, maxLiterals, variables};
 ghost use Rattle.occurrences.specs.Index.{Indexed, occurrenceAt, clauseCount, clauseOf};
 ghost use Rattle.tally.specs.Tally.{tallyOf, tallySize};
 ghost use Rattle.notes.specs.Notes.{notesOf, withBlocksEnd, Whole};
-ghost use Rattle.tie.specs.Doubling.{DoublesOf};
+ghost use Rattle.undouble.specs.Doubling.{DoublesOf};
 ghost use Rattle.start.specs.Opening.{OpenBelow};
 ghost use Rattle.start.specs.Counting.{CountsOf};
 ghost use Rattle.start.specs.Undoubling.{Undoubling, WrittenOnce, UndoubledOf};
@@ -105,7 +105,7 @@ fn undouble_at(index: &Index, state: &mut Tally, work: &mut Notes, r: u16) -> bo
         return false;
     }
     if tally::value_of(state, r as usize) == 2 * r {
-        tie::doubles_at(index, state, work, r)
+        undouble::doubles_at(index, state, work, r)
     } else {
         false
     }

@@ -4,10 +4,6 @@ pub mod Turns
 pub mod Joins
 pub mod Between
 pub mod Listings
-pub mod Doubles
-pub mod Signing
-pub mod Undoubling
-pub mod Along
 pub mod Stamping
 pub mod Keeps
 pub mod Tyings

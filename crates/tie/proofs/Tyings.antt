@@ -37,7 +37,7 @@ use Rattle.gather.proofs.Besides.{sound-root}
 use Rattle.gather.proofs.Collects.{beside-trans}
 use Rattle.tie.specs.Turning.{Turnable, Joined}
 use Rattle.tie.specs.Listing.{blockBetween, ListedBy}
-use Rattle.tie.specs.Doubling.{Once, DoublingAll, UndoubledAll}
+use Rattle.undouble.specs.Doubling.{Once, DoublingAll, UndoubledAll}
 use Rattle.tie.specs.Keeping.{WideWith, Kept}
 use Rattle.tie.specs.Tying.{Tieable, Tied, TieOf}
 use Rattle.tie.proofs.Between.{joined-followed, joined-arcs, joined-lists, joined-unheld}

@@ -1,5 +1,4 @@
 pub mod Turning
 pub mod Listing
-pub mod Doubling
 pub mod Keeping
 pub mod Tying

@@ -4,10 +4,10 @@ use Prim.Native.Nat.{ℕ, _+_, _*_, _≤_, _<_}
 use native.Mathlib.Decide.{ℕ-discrete as decEq}
 use native.Mathlib.Omega.{arith}
 use borrow.Author.Needs.{needs}
-use Rattle.tie.specs.Doubling.{stood}
-use Rattle.tie.proofs.Undoubling.{undoubled-narrow, undoubled-once, undouble-decidable, undoubled-decided, undoubled-cleared}
-use Rattle.tie.proofs.undouble.Statement.{statement}
-use Rattle.tie.proofs.undouble.Tie as tie
+use Rattle.undouble.specs.Doubling.{stood}
+use Rattle.undouble.proofs.Undoubling.{undoubled-narrow, undoubled-once, undouble-decidable, undoubled-decided, undoubled-cleared}
+use Rattle.undouble.proofs.undouble.Statement.{statement}
+use Rattle.undouble.proofs.undouble.Tie as tie
 
 returns : tie.Need-returns
 returns c =

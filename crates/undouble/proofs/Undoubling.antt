@@ -24,8 +24,8 @@ use Rattle.moves.proofs.Dying.{dies-in, fallen-dies}
 use Rattle.gather.specs.Gathering.{isWide}
 use Rattle.theory.proofs.States.{value-variable}
 use Rattle.gather.proofs.Written.{stands-for, known, wide-in}
-use Rattle.tie.specs.Doubling.{stood, Doubling, Undoubled}
-use Rattle.tie.proofs.Doubles.{twice-false, opposites-fall, clearing-mentions, only-mentions}
+use Rattle.undouble.specs.Doubling.{stood, Doubling, Undoubled}
+use Rattle.undouble.proofs.Doubles.{twice-false, opposites-fall, clearing-mentions, only-mentions}
 
 -- what stands in a clause is of a root
 pub standing-root : {ix st wk : List ℕ} → Sound ix st wk → (g : ℕ) → g < clauseCount ix → (x : ℕ) → 0 < stood ix st g x → valueIn st (x / 2) ≡ 2 * (x / 2)

@@ -1,7 +1,7 @@
 -- `doubles_at` meets its contract: what was not gathered does not hold the root.
-use Rattle.tie.proofs.Along.{doubles-gather, doubles-all, doubles-done}
-use Rattle.tie.proofs.doubles_at.Statement.{statement}
-use Rattle.tie.proofs.doubles_at.Tie as tie
+use Rattle.undouble.proofs.Along.{doubles-gather, doubles-all, doubles-done}
+use Rattle.undouble.proofs.doubles_at.Statement.{statement}
+use Rattle.undouble.proofs.doubles_at.Tie as tie
 
 undoubles-requires : tie.Need-undoubles-requires
 undoubles-requires c κs = let g = c .before .before in doubles-all (g .before .before .before .pre) (g .gather .ensures)

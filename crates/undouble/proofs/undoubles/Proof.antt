@@ -2,9 +2,9 @@
 use Prim.Native.Nat.{_-_}
 use native.Mathlib.Omega.{arith}
 use borrow.Author.Needs.{needs}
-use Rattle.tie.proofs.Along.{Along, along-begins, along-ends, along-asks, along-dies, along-goes}
-use Rattle.tie.proofs.undoubles.Statement.{statement}
-use Rattle.tie.proofs.undoubles.Tie as tie
+use Rattle.undouble.proofs.Along.{Along, along-begins, along-ends, along-asks, along-dies, along-goes}
+use Rattle.undouble.proofs.undoubles.Statement.{statement}
+use Rattle.undouble.proofs.undoubles.Tie as tie
 
 abbrev Inv-loop : tie.InvT-loop
 Inv-loop index state₀ work₀ n r i₀ state work i = Along index state₀ work₀ n r state work i

@@ -19,7 +19,7 @@ use Rattle.moves.proofs.Moves.{moved-refl, moved-trans, went-trans}
 use Rattle.moves.proofs.Dying.{died-fallen}
 use Rattle.gather.specs.Gathering.{AtRoot, Gathering}
 use Rattle.gather.proofs.Besides.{sound-root, beside-sound, beside-went}
-use Rattle.tie.specs.Doubling.{Once, Doubling, Undoubled, DoublingAll, UndoubledAll, OpenRoot, DoublesOf}
+use Rattle.undouble.specs.Doubling.{Once, Doubling, Undoubled, DoublingAll, UndoubledAll, OpenRoot, DoublesOf}
 
 -- what stands once in a wide clause does so after literals became false
 once-falls : {f : Formula} {s u : State} → Falls f s u → (r : ℕ) → 0 < r → (c : Clause) → (Wide (standing s c) → mentions r (standing s c) ≤ 1) →

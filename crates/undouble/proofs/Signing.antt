@@ -18,7 +18,7 @@ use Rattle.theory.proofs.Literals.{same-ne}
 use Rattle.theory.proofs.Clauses.{stand-ind}
 use Rattle.occurrences.specs.Index.{Indexed, clauseCount, codeAt, startAt}
 use Rattle.tally.specs.Tally.{stateIn}
-use Rattle.tie.specs.Doubling.{stood, Signable}
+use Rattle.undouble.specs.Doubling.{stood, Signable}
 
 -- a literal in front of a clause, as it stands
 occurs-front : (x : Literal) → x ≢ FALSE → (s : State) (l : Literal) (c : Clause) → occurs x (standing s (l ∷ c)) ≡ bit (same (value s l) x) + occurs x (standing s c)

@@ -7,9 +7,9 @@ use lib.Dec.{eqb}
 use Rattle.general.specs.Bits.{bit-le}
 use Rattle.literal.specs.Literal.{maxTable}
 use Rattle.occurrences.specs.Index.{startAt}
-use Rattle.tie.proofs.Signing.{Signing, signing-begins, signing-low, signing-place, signing-code, signing-goes, signing-ends}
-use Rattle.tie.proofs.signs.Statement.{statement}
-use Rattle.tie.proofs.signs.Tie as tie
+use Rattle.undouble.proofs.Signing.{Signing, signing-begins, signing-low, signing-place, signing-code, signing-goes, signing-ends}
+use Rattle.undouble.proofs.signs.Statement.{statement}
+use Rattle.undouble.proofs.signs.Tie as tie
 
 abbrev Inv-loop : tie.InvT-loop
 Inv-loop index state g r start end plus₀ minus₀ i₀ plus minus i = (end ≡ startAt index (g + 1) - 1) × Signing index state g r plus minus i

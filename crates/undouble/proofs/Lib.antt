@@ -1,0 +1,4 @@
+pub mod Doubles
+pub mod Signing
+pub mod Undoubling
+pub mod Along
