@@ -21,9 +21,9 @@ use Rattle.theory.specs.Search.{treeFrom, treeOf, search, planOf, trailOf}
 use Rattle.theory.specs.Calls.{over, searchedCall, searchRefused, searchCall}
 use Rattle.theory.specs.Table.{check, Accepted}
 use Rattle.theory.proofs.Paths.{PathWithin, found-path}
-use Rattle.search.specs.declared.Walk.{Walk}
+use Rattle.walk.specs.declared.Walk.{Walk}
 use Rattle.search.specs.Call.{called}
-use Rattle.search.specs.Walk.{Walked, walked, planAfter, trailAfter, walkOf}
+use Rattle.walk.specs.Walk.{Walked, walked, planAfter, trailAfter, walkOf}
 
 -- lists that were cleared ------------------------------------------------------------------------------------------
 

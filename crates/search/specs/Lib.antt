@@ -1,4 +1,1 @@
-pub mod Branch
-pub mod Walk
 pub mod Call
-pub mod Learning

@@ -5,9 +5,9 @@ use Rattle.theory.proofs.Tables.{accepted-sizes}
 use Rattle.occurrences.specs.Index.{formulaOf}
 use Rattle.occurrences.proofs.Building.{within-all}
 use Rattle.memo.proofs.Learning.{empty-remembering}
-use Rattle.search.proofs.Starting.{start-walkable, start-walk}
-use Rattle.search.proofs.walk_table.Statement.{statement}
-use Rattle.search.proofs.walk_table.Tie as tie
+use Rattle.walk.proofs.Starting.{start-walkable, start-walk}
+use Rattle.walk.proofs.walk_table.Statement.{statement}
+use Rattle.walk.proofs.walk_table.Tie as tie
 
 build-requires : tie.Need-build-requires
 build-requires c κs = within-all (accepted-sizes _ _ (c .before .pre .0 .accepted))

@@ -5,9 +5,9 @@ use borrow.Author.Needs.{needs}
 use mir.Syntax.{w16}
 use mir.ValLaws.{toZ-ofZ}
 use Rattle.receipt.specs.declared.Outcome.the-variants.{LaidOut}
-use Rattle.search.proofs.Outcomes.{other-outcome, noted-other}
-use Rattle.search.proofs.through.Statement.{statement}
-use Rattle.search.proofs.through.Tie as tie
+use Rattle.walk.proofs.Outcomes.{other-outcome, noted-other}
+use Rattle.walk.proofs.through.Statement.{statement}
+use Rattle.walk.proofs.through.Tie as tie
 
 returns : tie.Need-returns
 returns c =

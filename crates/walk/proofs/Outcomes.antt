@@ -10,8 +10,8 @@ use Rattle.receipt.proofs.Outcome.{enum}
 use Rattle.receipt.specs.declared.Outcome.{Outcome}
 use Rattle.receipt.specs.declared.Outcome.the-variants.{LaidOut, NoLayout, Stopped}
 use Rattle.memo.specs.declared.Held.{Held}
-use Rattle.search.specs.Walk.{noted}
-use Rattle.search.specs.Learning.{LearntOf}
+use Rattle.walk.specs.Walk.{noted}
+use Rattle.walk.specs.Learning.{LearntOf}
 
 abbrev tag : Outcome → ℕ
 tag = tagOf (declared enum)

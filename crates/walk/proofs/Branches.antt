@@ -20,7 +20,7 @@ use Rattle.tally.specs.Tally.{stateIn, valueIn}
 use Rattle.gather.specs.Gathering.{AtRoot, StandsLive}
 use Rattle.side.proofs.Calm.{calm-closed, wider}
 use Rattle.side.proofs.Splitting.{open-code}
-use Rattle.search.specs.Branch.{Branching, BranchesOn, Branchable}
+use Rattle.walk.specs.Branch.{Branching, BranchesOn, Branchable}
 
 module _ {ix st : List ℕ} {p : ℕ} (b : Branching ix st p) where
   -- one that stands for another stands nowhere

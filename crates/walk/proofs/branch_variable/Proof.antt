@@ -1,9 +1,9 @@
 -- `branch_variable` meets its contract, by the laws of Branches.
 use Prim.Native.Nat.{_+_, _-_}
 use native.Mathlib.Omega.{arith}
-use Rattle.search.proofs.Branches.{Passed, passed-begins, passed-branching, passed-found, passed-all, passed-more}
-use Rattle.search.proofs.branch_variable.Statement.{statement}
-use Rattle.search.proofs.branch_variable.Tie as tie
+use Rattle.walk.proofs.Branches.{Passed, passed-begins, passed-branching, passed-found, passed-all, passed-more}
+use Rattle.walk.proofs.branch_variable.Statement.{statement}
+use Rattle.walk.proofs.branch_variable.Tie as tie
 
 abbrev Inv-loop : tie.InvT-loop
 Inv-loop index state from n p₀ p-end p = Passed index state from n p

@@ -27,10 +27,10 @@ use Rattle.memo.specs.declared.Held.{Held}
 use Rattle.memo.specs.declared.Held.the-variants.{In, Nowhere}
 use Rattle.memo.specs.Memory.{slotsOf, Keying, Keepable, Found, HoldOf, Remembering, Remembered}
 use Rattle.memo.proofs.Learning.{remembered-spared, remembered-trans, holding-remembering, holding-remembered, learning-remembered}
-use Rattle.search.specs.declared.Level.{Level}
-use Rattle.search.specs.Walk.{Lasting, Beginning, Splittable, Walked, walked, treeWalk, splitWalk}
-use Rattle.search.specs.Learning.{LearntOf}
-use Rattle.search.proofs.Sides.{branch-open}
+use Rattle.walk.specs.declared.Level.{Level}
+use Rattle.walk.specs.Walk.{Lasting, Beginning, Splittable, Walked, walked, treeWalk, splitWalk}
+use Rattle.walk.specs.Learning.{LearntOf}
+use Rattle.walk.proofs.Sides.{branch-open}
 
 -- no rule fits a state at rest
 calm-rests : {ix st : List ℕ} → Calm ix st → step (formulaOf ix) (stateIn st) ≡ none

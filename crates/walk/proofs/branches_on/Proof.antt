@@ -2,9 +2,9 @@
 use mathlib.Core.Path.{sym, _∙_}
 use borrow.Author.Needs.{needs}
 use native.Mathlib.Omega.{arith}
-use Rattle.search.proofs.Branches.{not-root, stands-in, at-root}
-use Rattle.search.proofs.branches_on.Statement.{statement}
-use Rattle.search.proofs.branches_on.Tie as tie
+use Rattle.walk.proofs.Branches.{not-root, stands-in, at-root}
+use Rattle.walk.proofs.branches_on.Statement.{statement}
+use Rattle.walk.proofs.branches_on.Tie as tie
 
 returns : tie.Need-returns
 returns c = not-root (c .before .before .pre) (λ e. c .if1 .taken (c .before .value-of .ensures ∙ e))

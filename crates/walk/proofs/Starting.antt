@@ -18,8 +18,8 @@ use Rattle.theory.proofs.Tables.{accepted-sizes, accepted-within}
 use Rattle.occurrences.specs.Index.{formulaOf}
 use Rattle.tally.specs.Tally.{stateIn}
 use Rattle.start.specs.Starting.{StartOf}
-use Rattle.search.specs.Walk.{Walkable, Begins, Searchable, walkFrom, walkOf, tableWalk}
-use Rattle.search.proofs.Walking.{dead-walk}
+use Rattle.walk.specs.Walk.{Walkable, Begins, Searchable, walkFrom, walkOf, tableWalk}
+use Rattle.walk.proofs.Walking.{dead-walk}
 
 module _ {n : ℕ} {t : List ℤ} {plan : List ℕ} {trail : List ℤ} (k : Searchable n t plan trail) (ix st wk : List ℕ) (is : formulaOf ix ≡ clauses t) (left : ℕ) where
   within : Within n (formulaOf ix)

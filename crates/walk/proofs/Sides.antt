@@ -24,15 +24,15 @@ use Rattle.theory.proofs.States.{side}
 use Rattle.occurrences.specs.Index.{formulaOf}
 use Rattle.tally.specs.Tally.{stateIn}
 use Rattle.moves.specs.Stepping.{Died}
-use Rattle.search.specs.declared.Level.{Level}
+use Rattle.walk.specs.declared.Level.{Level}
 use Rattle.engine.specs.Ready.{Rested}
 use Rattle.engine.proofs.Settles.{died-settles}
 use Rattle.side.specs.Side.{Begun}
 use Rattle.side.proofs.Calm.{calm-closed, rested-calm}
 use Rattle.side.proofs.Splitting.{side-dead}
-use Rattle.search.specs.Branch.{Branchable}
-use Rattle.search.specs.Walk.{Lasting, Beginning, Begins, Walkable, Splittable, Passable, under, treeWalk, walkFrom}
-use Rattle.search.proofs.Walking.{dead-walk}
+use Rattle.walk.specs.Branch.{Branchable}
+use Rattle.walk.specs.Walk.{Lasting, Beginning, Begins, Walkable, Splittable, Passable, under, treeWalk, walkFrom}
+use Rattle.walk.proofs.Walking.{dead-walk}
 
 -- propagation -------------------------------------------------------------------------------------------------------
 

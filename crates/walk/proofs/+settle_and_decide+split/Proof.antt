@@ -20,38 +20,38 @@ use Rattle.tally.specs.Tally.{stateIn}
 use Rattle.side.specs.Branch.{branchOf}
 use Rattle.engine.specs.Ready.{Rested}
 use Rattle.engine.proofs.Settles.{rested-settles}
-use Rattle.search.specs.Walk.{Beginning, walked, treeWalk, splitWalk, under}
-use Rattle.search.proofs.Outcomes.{other-outcome}
-use Rattle.search.proofs.Sides.{died-walk, rested-fewer, rested-branchable, rested-splittable, branch-open}
-use Rattle.search.proofs.Sides.{side-deep, side-room, side-walkable, side-walk, side-passable}
+use Rattle.walk.specs.Walk.{Beginning, walked, treeWalk, splitWalk, under}
+use Rattle.walk.proofs.Outcomes.{other-outcome}
+use Rattle.walk.proofs.Sides.{died-walk, rested-fewer, rested-branchable, rested-splittable, branch-open}
+use Rattle.walk.proofs.Sides.{side-deep, side-room, side-walkable, side-walk, side-passable}
 use Rattle.side.proofs.Calm.{out-assigns, taken-assigns}
 use Rattle.side.proofs.Splitting.{walkWeight, side-siding, side-falls}
 use Rattle.theory.proofs.Picking.{branch-picking, at-rest}
-use Rattle.search.proofs.Walking.{walk-count, leaf-walk, none-left, sideOf, first-side, second-side}
-use Rattle.search.proofs.Remembering.{remembered-stops, remembered-none, split-keying, held-remembering, held-keepable, split-remembered}
+use Rattle.walk.proofs.Walking.{walk-count, leaf-walk, none-left, sideOf, first-side, second-side}
+use Rattle.walk.proofs.Remembering.{remembered-stops, remembered-none, split-keying, held-remembering, held-keepable, split-remembered}
 use Rattle.memo.specs.Memory.{Remembered}
 use Rattle.memo.proofs.Learning.{remembered-refl, remembered-spared, remembered-trans}
-use Rattle.search.proofs.settle_and_decide.Reads as settle-and-decide
-use Rattle.search.proofs.settle_and_decide.Kinds as settle-and-decide-kinds
-use Rattle.search.proofs.+settle_and_decide+split.Lts-settle_and_decide as decide-lts
-use Rattle.search.proofs.split.Reads as split
-use Rattle.search.proofs.split.Kinds as split-kinds
-use Rattle.search.proofs.+settle_and_decide+split.Lts-split as split-lts
+use Rattle.walk.proofs.settle_and_decide.Reads as settle-and-decide
+use Rattle.walk.proofs.settle_and_decide.Kinds as settle-and-decide-kinds
+use Rattle.walk.proofs.+settle_and_decide+split.Lts-settle_and_decide as decide-lts
+use Rattle.walk.proofs.split.Reads as split
+use Rattle.walk.proofs.split.Kinds as split-kinds
+use Rattle.walk.proofs.+settle_and_decide+split.Lts-split as split-lts
 use Rattle.literal.proofs.Literal.new.Reads as new-reads
 use Rattle.literal.proofs.Literal.code.Reads as code-reads
 use Rattle.literal.proofs.Literal.opposite.Reads as opposite-reads
 use Rattle.side.proofs.begin.Reads as begin-reads
-use Rattle.search.proofs.below.Reads as below-reads
-use Rattle.search.proofs.branch_variable.Reads as branch-variable-reads
+use Rattle.walk.proofs.below.Reads as below-reads
+use Rattle.walk.proofs.branch_variable.Reads as branch-variable-reads
 use Rattle.engine.proofs.propagate.Reads as propagate-reads
-use Rattle.search.proofs.through.Reads as through-reads
+use Rattle.walk.proofs.through.Reads as through-reads
 use Rattle.side.proofs.write_choice.Reads as write-choice-reads
 use Rattle.memo.proofs.remembered.Reads as remembered-reads
 use Rattle.memo.proofs.count_split.Reads as count-split-reads
 use Rattle.memo.proofs.hold.Reads as hold-reads
-use Rattle.search.proofs.learn.Reads as learn-reads
-use Rattle.search.proofs.+settle_and_decide+split.{statement}
-use Rattle.search.proofs.+settle_and_decide+split.Tie.{close}
+use Rattle.walk.proofs.learn.Reads as learn-reads
+use Rattle.walk.proofs.+settle_and_decide+split.{statement}
+use Rattle.walk.proofs.+settle_and_decide+split.Tie.{close}
 
 abbrev μ-settle-and-decide : Measures 6 settle-and-decide-kinds.ps ℕ
 μ-settle-and-decide κs a = walkWeight (a .1 .1 .1 .1 .0) (stateIn (a .1 .0 .now)) (a .1 .1 .1 .1 .1 .0 .variables)

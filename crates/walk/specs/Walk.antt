@@ -23,8 +23,8 @@ use Rattle.theory.proofs.Guard.{Guard}
 use Rattle.occurrences.specs.Index.{formulaOf}
 use Rattle.tally.specs.Tally.{stateIn}
 use Rattle.notes.specs.Notes.{Whole}
-use Rattle.search.specs.declared.Level.{Level}
-use Rattle.search.specs.declared.Walk.{Walk}
+use Rattle.walk.specs.declared.Level.{Level}
+use Rattle.walk.specs.declared.Walk.{Walk}
 use Rattle.engine.specs.Ready.{Ready}
 use Rattle.side.specs.Side.{Calm}
 

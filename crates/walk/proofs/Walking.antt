@@ -21,7 +21,7 @@ use Rattle.theory.specs.State.{State, assign}
 use Rattle.theory.specs.Tree.{Found, Run, run, visit, tree, Result, finish, stop, limited}
 use Rattle.theory.specs.Calls.{over}
 use Rattle.theory.proofs.Budget.{limited-enough, limited-short, count-min, limited-nothing, past, split-none, split-first, split-second}
-use Rattle.search.specs.Walk.{Walked, walked, walkOf, counted, noted}
+use Rattle.walk.specs.Walk.{Walked, walked, walkOf, counted, noted}
 
 -- the count of a walk is within its allowance
 pub walk-count : (n d b : ℕ) (r : Run Choice) (p : List ℕ) (t : List ℤ) (w : Walked) → w ≡ walkOf n d (limited b r) p t → w .walk .count ≤ b

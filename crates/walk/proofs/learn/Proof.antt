@@ -2,9 +2,9 @@
 use borrow.Author.Needs.{needs}
 use native.Mathlib.Omega.{arith}
 use Rattle.receipt.specs.declared.Outcome.the-variants.{NoLayout}
-use Rattle.search.proofs.Outcomes.{other-outcome, learnt-other}
-use Rattle.search.proofs.learn.Statement.{statement}
-use Rattle.search.proofs.learn.Tie as tie
+use Rattle.walk.proofs.Outcomes.{other-outcome, learnt-other}
+use Rattle.walk.proofs.learn.Statement.{statement}
+use Rattle.walk.proofs.learn.Tie as tie
 
 pub learn-spec : {M : Type 1} → statement M
 learn-spec = tie.close (tie.spec
