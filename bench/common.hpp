@@ -176,9 +176,10 @@ struct Pair {
     double first, second;
 };
 
-inline Pair best_of(const std::function<void()> &first, const std::function<void()> &second) {
+inline Pair best_of(const std::function<void()> &first, const std::function<void()> &second,
+    double round_seconds = 0.1) {
     const int rounds = 5;
-    const double round_seconds = 0.1, no_more = 1;
+    const double no_more = 1;
     Pair best = {seconds_of(first, 1), seconds_of(second, 1)};
     int times = std::max(1, (int)(round_seconds / (best.first + 1e-7)));
     int second_times = std::max(1, (int)(round_seconds / (best.second + 1e-7)));

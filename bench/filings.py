@@ -1,9 +1,12 @@
 #!/usr/bin/env python3
 """Makes the filings that are measured, each as a strip and as DIMACS text, always the same ones.
 
-    bench/filings.py table FOLDER       all filings of the table
+    bench/filings.py table FOLDER       the 23 filings of the first table
+    bench/filings.py worst FOLDER       those made to have a slow start or a slow split
+    bench/filings.py memory FOLDER      those where remembering subtrees pays, or doesn't, in other ways than above
     bench/filings.py growth FOLDER      the series for how cost grows
-    bench/filings.py settle FOLDER      those of the table, and some for Settle only
+    bench/filings.py longest FOLDER     the series for how the longest split grows
+    bench/filings.py settle FOLDER      those of the first table, and some for Settle only
     bench/filings.py list FOLDER        those for List, some with placements that stand in no group
     bench/filings.py cnf STRIP FILE     the DIMACS text of one strip
 
@@ -222,6 +225,16 @@ def queens(size):
     return name.filing(groups)
 
 
+def torus_queens(size):
+    """A queen in each row, column and diagonal of a board whose edges meet: none where 2 or 3 divides the size."""
+    name, side = Namer(), range(size)
+    groups = [[name(y, x) for x in side] for y in side]
+    groups += [[name(y, x) for y in side] for x in side]
+    groups += [[name(y, (y + d) % size) for y in side] for d in side]
+    groups += [[name(y, (d - y) % size) for y in side] for d in side]
+    return name.filing(groups)
+
+
 def langford(pairs):
     """Two of each number k, with k others in between: only where `pairs` leaves 0 or 3 divided by 4."""
     name, slot, number = Namer(), [[] for _ in range(2 * pairs)], []
@@ -327,10 +340,76 @@ def released(classes, size):
     return name.filing(groups + ties + [[x, y, c], [-x, -y, d]])
 
 
+def moved(by, groups):
+    """The same with placements that are `by` higher."""
+    return [[e + by if e > 0 else e - by for e in g] for g in groups]
+
+
 def below_free(count, filing):
     """A filing's placements after some that stand in no group: each of these doubles List's tree."""
     n, groups = filing
-    return n + count, [[e + count if e > 0 else e - count for e in g] for g in groups]
+    return n + count, moved(count, groups)
+
+
+def after(*filings):
+    """Filings that share no placement, one after the other: what the last costs is paid for each layout of those
+    before."""
+    n, groups = 0, []
+    for more, added in filings:
+        groups += moved(n, added)
+        n += more
+    return n, groups
+
+
+def falling(chains, length, others, switched=True):
+    """Rule 7 and rule 6 by turns. A switch, left out, ties q to the opposite of r; then the long group lets a fall, and
+    that ties the next q to r, with which the long group lets the next a fall. All other groups hold r, of each chain
+    where there are some."""
+    name = Namer()
+    switch = [name("switch")] if switched else []
+    u, v = name("u"), name("v")
+    root = [name("r", k) for k in range(chains)]
+    groups, last = [], []
+    for k, r in enumerate(root):
+        a, q = ([name(letter, k, i) for i in range(length)] for letter in "aq")
+        groups += [switch + [r, q[0]]] + [[q[i], a[i], u, v] for i in range(length)]
+        groups += [[a[i], r, q[i + 1]] for i in range(length - 1)]
+        last.append([r] + a + [name("c", k)])
+    rest = [name("rest", i) for i in range(4 - chains)]
+    return name.filing(groups + [root + rest] * others + last)
+
+
+def joined(classes, half, size, switched=True):
+    """A switch, left out, ties the placements that all groups of one half hold to those that all of the other hold:
+    every two of the two halves are new pairs, in each class, and none of them fits."""
+    name = Namer()
+    switch = [name("switch")] if switched else []
+    first, second = ([name(letter, k) for k in range(classes)] for letter in "qr")
+    groups = [switch + [q, -r] for q, r in zip(first, second)]
+    for letter, held in (("x", first), ("y", second)):
+        groups += [held + [name(letter, (i + j) % 40) for j in range(size - classes)] for i in range(half)]
+    return name.filing(groups)
+
+
+def scattered(classes, members, groups, rest, switched=True):
+    """Every group holds one member of each class, and a switch, or the start, ties all members of all classes."""
+    name = Namer()
+    switch = [name("switch")] if switched else []
+    member = [[name("class", j, i) for i in range(members)] for j in range(classes)]
+    made = [switch + [first, -other] for first, *others in member for other in others]
+    for k in range(groups):
+        held = [of[(k + 3 * j) % members] for j, of in enumerate(member)]
+        made.append(held + [name("rest", (k + i) % 17) for i in range(rest)])
+    return name.filing(made)
+
+
+def sinking(count, switched=True):
+    """A switch, left out, ties neighbours by rule 6, the highest first: with each tie the whole class gets a new, lower
+    root."""
+    name = Namer()
+    switch = [name("switch")] if switched else []
+    place = [name("place", i) for i in range(count)]
+    return name.filing([switch + [place[i], place[i - 1]] for i in range(count - 1, 0, -1)])
 
 
 def late_ties(ties, others):
@@ -377,12 +456,41 @@ ALL = {
 }
 
 
+# A start or a split that was, or could be, slow
+WORST = {
+    "falling": lambda: falling(1, 120, 271),
+    "falling4": lambda: falling(4, 30, 268),
+    "fallstart": lambda: falling(1, 120, 271, switched=False),
+    "lateties": lambda: late_ties(80, 348),
+    "joined3": lambda: joined(3, 250, 4),
+    "joined30": lambda: joined(30, 31, 31),
+    "joined80": lambda: joined(80, 11, 81),
+    "joinstart": lambda: joined(3, 250, 4, switched=False),
+    "scattered": lambda: scattered(4, 8, 483, 0),
+    "sinking": lambda: sinking(255),
+    "sinkstart": lambda: sinking(256, switched=False),
+    "released": lambda: released(4, 60),
+}
+
+
+# Subtrees that come again, or don't
+MEMORY = {
+    "x3mix255": lambda: dealt(255, 170, 3, 0.5, 64),
+    "x4mix256": lambda: dealt(256, 104, 4, 0.5, 9),
+    "x4pos256": lambda: dealt(256, 160, 4, 0, 2),
+    "torus14": lambda: torus_queens(14),
+    "domino6x13": lambda: dominoes(6, 13, {(0, 0), (5, 11)}),
+    "appendix": lambda: after(dominoes(4, 6, set()), pigeons(7, 6)),
+    "twins": lambda: after(*[pigeons(4, 4)] * 3, pigeons(6, 5)),
+}
+
+
 # Measured for Settle
 SETTLED = {
     **ALL,
     "waiting": lambda: waiting(124, 250, False),
     "waitclash": lambda: waiting(124, 250, True),
-    "released": lambda: released(4, 60),
+    "released": WORST["released"],
 }
 
 
@@ -412,6 +520,29 @@ def growth():
     return series
 
 
+def longest():
+    """The worst filings at some sizes; joined also by classes, with as many groups as the limits allow."""
+    series = {}
+    for length in (15, 30, 60, 120):
+        series["falling-%d" % length] = lambda k=length: falling(1, k, 271 * k // 120)
+    for length in (4, 8, 15, 30):
+        series["falling4-%d" % length] = lambda k=length: falling(4, k, 268 * k // 30)
+    for ties in (10, 20, 40, 80):
+        series["lateties-%d" % ties] = lambda k=ties: late_ties(k, 348 * k // 80)
+    for half in (32, 63, 125, 250):
+        series["joined3-%d" % half] = lambda k=half: joined(3, k, 4)
+    for classes in (3, 8, 15, 30, 80):
+        half = min(250, (MOST_ENTRIES - 3 * classes) // (2 * classes + 2))
+        series["joined-%d" % classes] = lambda k=classes, half=half: joined(k, half, k + 1)
+    for groups in (60, 120, 241, 483):
+        series["scattered-%d" % groups] = lambda k=groups: scattered(4, 8, k, 0)
+    for count in (32, 64, 128, 255):
+        series["sinking-%d" % count] = lambda k=count: sinking(k)
+    for size in (8, 15, 30, 60):
+        series["released-%d" % size] = lambda k=size: released(4, k)
+    return series
+
+
 def check(name, n, groups, all_named):
     entries = [e for g in groups for e in g]
     within = n <= MOST_PLACEMENTS and len(groups) <= MOST_GROUPS and len(entries) <= MOST_ENTRIES
@@ -434,7 +565,8 @@ def write(folder, filings, all_named=True):
 
 
 def main(words):
-    made = {"table": ALL, "growth": growth(), "settle": SETTLED, "list": LISTED}
+    made = {"table": ALL, "worst": WORST, "memory": MEMORY, "growth": growth(), "longest": longest(),
+            "settle": SETTLED, "list": LISTED}
     if len(words) == 3 and words[0] == "cnf":
         with open(words[1], "rb") as given, open(words[2], "w") as out:
             out.write(dimacs(*read_strip(given.read())))

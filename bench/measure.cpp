@@ -2,9 +2,12 @@
  *
  * Where the library would take longer than SECONDS for a filing it is measured at a smaller allowance, and the
  * independent search at the same one, so that both do the same work. Each line: strip, n, groups, entries, number and
- * count at ALLOWANCE, the allowance measured at, the splits made there, seconds of the library, seconds of the
- * independent search, and "same" or "DIFFERS". */
+ * count at ALLOWANCE, the splits walked there, the allowance measured at, the splits counted there, seconds of the
+ * library, seconds of the independent search, and "same" or "DIFFERS". Splits are those of the tree: those of a subtree
+ * that is remembered are counted and not walked. Built without -DMEMO_TRIAL, nothing can tell them apart, and 0 stands
+ * for the splits walked. */
 #include "common.hpp"
+#include "memo_trial.hpp"
 
 enum { FIRST_ALLOWANCE = 16, TIMES_MORE = 4 };
 
@@ -19,6 +22,20 @@ static uint32_t allowance_in(double most, const std::vector<uint8_t> &strip, int
     return allowance;
 }
 
+#ifdef MEMO_TRIAL
+/* The splits walked by the same search with its counts of the memory open; it must answer as the independent one. */
+static uint32_t walked_of(const char *path, const own::Filing &f, const own::Answer &whole, uint32_t allowance) {
+    std::vector<uint8_t> plan((size_t)f.n + 1);
+    std::vector<int16_t> trail((size_t)f.n + 1);
+    memo_trial m = memo_trial_search(lent(f.table), f.table.size(), (size_t)f.n, allowance, plan.data(), plan.size(),
+        trail.data(), trail.size(), PRODUCT_SLOTS, PRODUCT_SPREAD);
+    if ((int)m.number != whole.number || m.count != whole.count) fail(path, "what tells the splits walked differs");
+    return m.walked;
+}
+#else
+static uint32_t walked_of(const char *, const own::Filing &, const own::Answer &, uint32_t) { return 0; }
+#endif
+
 static bool measure(const char *path, uint32_t allowance, double most) {
     std::vector<uint8_t> strip = read_strip(path);
     own::Filing f = parse(strip);
@@ -28,8 +45,9 @@ static bool measure(const char *path, uint32_t allowance, double most) {
     bool same = alike(independent, by_window(strip, f.n, at));
     Pair best = best_of([&] { by_window(strip, f.n, at); }, [&] { by_own(strip, at); });
     size_t groups = groups_of(f);
-    printf("%s %d %zu %zu %d %u %u %u %.9f %.9f %s\n", path, f.n, groups, f.table.size() - groups, whole.number,
-        whole.count, at, independent.count, best.first, best.second, same ? "same" : "DIFFERS");
+    printf("%s %d %zu %zu %d %u %u %u %u %.9f %.9f %s\n", path, f.n, groups, f.table.size() - groups, whole.number,
+        whole.count, walked_of(path, f, whole, allowance), at, independent.count, best.first, best.second,
+        same ? "same" : "DIFFERS");
     fflush(stdout);
     return same;
 }

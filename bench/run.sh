@@ -2,9 +2,12 @@
 # The benchmark, in one command. Ratios in one run mean something, absolute times don't, and no time is a test.
 #
 #     bench/run.sh [OPTION...] [STRIP...]  compares random filings, then measures the filings of bench/filings.py, or
-#                                          the strips given, and prints the table; without strips it also writes
-#                                          docs/speed.svg, and prints the line of --keystroke
+#                                          the strips given, and prints a table for each kind; without strips it also
+#                                          writes docs/speed.svg, and prints the line of --keystroke
 #     bench/run.sh --growth [OPTION...]    how cost grows with placements, groups and entries
+#     bench/run.sh --longest [STRIP...]    what the start of a search and its longest split cost, on the filings made to
+#                                          be slow, and how that grows with the table
+#     bench/run.sh --worst [OPTION...]     looks for tables on which a start or a split is slow (bench/worst.py)
 #     bench/run.sh --compare [WORD...]     only compares, WORDs as bench/compare.cpp says
 #     bench/run.sh --keystroke             what one element more costs beside a whole check of a table at the limits
 #     bench/run.sh --settle [STRIP...]     what one settle costs on each filing, and one preview of its last group
@@ -55,11 +58,21 @@ library() {
 
 flags=(-std=c++17 -O3 -march=native -pthread -Wall -Wextra -Werror -Wno-psabi)
 
-compiled() { # program of this folder or another C++ file
+compiled() { # program of this folder or another C++ file, further words for the compiler
     need g++ g++
     local source=bench/$1.cpp
     [ -e "$source" ] || source=$1
-    g++ "${flags[@]}" "-I$include" "$source" "$archive" -o "$out/$(basename "$1" .cpp)"
+    g++ "${flags[@]}" "-I$include" "$source" "${@:2}" "$archive" -o "$out/$(basename "$1" .cpp)"
+}
+
+# The search that tells what it walked is no part of what is installed.
+compiled_measure() {
+    if [ -n "$prefix" ]; then
+        compiled measure
+    else
+        proved staticlib memo_trial
+        compiled measure -DMEMO_TRIAL target/staticlib/libmemo_trial.a
+    fi
 }
 
 compare() { # words for compare
@@ -72,8 +85,10 @@ keystroke() {
     "$out/keystrokes"
 }
 
-made() { # the filings of a mode become `strips`
-    python3 bench/filings.py "$1" "$out/strips/$1" >"$out/made"
+made() { # the filings of some modes become `strips`
+    local kind
+    : >"$out/made"
+    for kind; do python3 bench/filings.py "$kind" "$out/strips/$kind" >>"$out/made"; done
     mapfile -t strips <"$out/made"
 }
 
@@ -90,10 +105,10 @@ table() {
     need clasp clasp
     [ -n "$prefix" ] || proved check layout
     compiled own
-    compiled measure
+    compiled_measure
     compare
     if [ "${#strips[@]}" -eq 0 ]; then
-        made table
+        made table worst memory
         picture=(--picture docs/speed.svg)
     fi
     python3 bench/table.py --layout "$layout" "${picture[@]}" "${options[@]}" "${strips[@]}"
@@ -101,9 +116,20 @@ table() {
 }
 
 growth() {
-    compiled measure
+    compiled_measure
     made growth
     python3 bench/table.py --growth --allowance 20000 "${options[@]}" "${strips[@]}"
+}
+
+longest() {
+    compiled longest
+    [ "${#strips[@]}" -gt 0 ] || made worst longest
+    python3 bench/table.py --longest "${options[@]}" "${strips[@]}"
+}
+
+worst() {
+    compiled longest
+    python3 bench/worst.py "${options[@]}"
 }
 
 stack() {
@@ -113,7 +139,7 @@ stack() {
 
 mode=table
 case ${1-} in
---growth | --compare | --keystroke | --settle | --list | --stack)
+--growth | --longest | --worst | --compare | --keystroke | --settle | --list | --stack)
     mode=${1#--}
     shift
     ;;

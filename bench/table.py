@@ -1,5 +1,6 @@
 #!/usr/bin/env python3
-"""Measures strips and prints one table, for bench/run.sh, which builds what is called here.
+"""Measures strips and prints a table for each folder that they stand in, for bench/run.sh, which builds what is called
+here.
 
 The library is called through the window's call, the independent search directly, both by target/bench/measure; the
 layout program, the independent search and the solvers are also timed as whole runs, from the start of the process to
@@ -81,35 +82,39 @@ def whole_runs(row, options):
 
 # Rows
 
+def name_of(path):
+    return os.path.splitext(os.path.basename(path))[0]
+
+
 def measured(strips, options):
     """One row for each strip, as target/bench/measure gives it."""
     for path in strips:
         command = [BENCH + "/measure", str(options.allowance), str(options.seconds), path]
         printed = subprocess.run(command, stdout=subprocess.PIPE, text=True, check=False).stdout
-        words = printed.rsplit(None, 10)
+        words = printed.rsplit(None, 11)
         if not words:
             sys.exit(1)  # measure has said why
-        if words[10] != "same":
+        if words[11] != "same":
             sys.exit("%s: library and independent search differ: %s" % (path, printed))
-        row = dict(zip(("n", "groups", "entries", "number", "count", "at", "splits"), map(int, words[1:8])))
-        row.update(strip=path, name=os.path.splitext(os.path.basename(path))[0])
-        row.update(library=float(words[8]), independent=float(words[9]))
+        row = dict(zip(("n", "groups", "entries", "number", "count", "walked", "at", "splits"), map(int, words[1:9])))
+        row.update(strip=path, name=name_of(path), kind=os.path.basename(os.path.dirname(path)))
+        row.update(library=float(words[9]), independent=float(words[10]))
         yield row
 
 
-def reference(row, program):
+def reference(row, program, allowance, splits):
     """Processor seconds of one search by a program, the best of three. It answers the line `bench N ALLOWANCE e1 e2 ..`
     with `NUMBER PLACE COUNT | .. reps R ..`; it searches once, and if that was short R times more."""
     with open(row["strip"], "rb") as given:
         n, groups = filings.read_strip(given.read())
-    line = " ".join(map(str, ["bench", n, row["at"]] + [e for g in groups for e in g + [0]]))
+    line = " ".join(map(str, ["bench", n, allowance] + [e for g in groups for e in g + [0]]))
     best = None
     for _ in range(3):
         before = resource.getrusage(resource.RUSAGE_CHILDREN)
         done = subprocess.run([program], input=line + "\n", stdout=subprocess.PIPE, text=True, check=True)
         words = done.stdout.split()
         after = resource.getrusage(resource.RUSAGE_CHILDREN)
-        if int(words[2]) != row["splits"]:
+        if int(words[2]) != splits:
             sys.exit("%s: the reference's count is %s" % (row["name"], words[2]))
         repeats = int(words[words.index("reps") + 1])
         seconds = (after.ru_utime + after.ru_stime - before.ru_utime - before.ru_stime) / (repeats + (repeats > 1))
@@ -159,29 +164,33 @@ def head(cells):
 
 # The table and the growth of cost
 
-def table(strips, options):
-    columns = FILING + ["outcome", "count", "library", "own", "ratio", "layout"] + list(SOLVERS) + ["ahead"]
+def table_head(options):
+    columns = FILING + ["outcome", "count", "walked", "library", "own", "ratio", "layout"] + list(SOLVERS) + ["ahead"]
+    head(columns + (["reference", "library to it", "independent to it"] if options.reference else []))
+
+
+def is_cut(row, options):
+    """Measured on the first splits of its tree alone."""
+    return row["at"] < options.allowance and row["splits"] == row["at"]
+
+
+def table_cells(row, options):
+    whole = row["whole"]
+    cells = filing_cells(row) + [OUTCOMES[row["number"]], "{:,}".format(row["count"])]
+    cells += ["{:,}".format(row["walked"]) if row["walked"] or not row["count"] else "-"]
+    cells += [rate(row["splits"], row["library"]) + ("*" if is_cut(row, options) else "")]
+    cells += [rate(row["splits"], row["independent"]), "%.2g" % (row["independent"] / row["library"])]
+    cells += [shown(whole[name], options.limit) for name in SERIES if name != "independent"] + [row["ahead"]]
     if options.reference:
-        columns += ["reference", "library to it", "independent to it"]
-    head(columns)
-    rows, cut, first = [], [], 0
-    for row in measured(strips, options):
-        whole = row["whole"] = whole_runs(row, options)
-        row["ahead"] = ahead(row, whole)
-        stopped = row["at"] < options.allowance and row["splits"] == row["at"]
-        cells = filing_cells(row) + [OUTCOMES[row["number"]], "{:,}".format(row["count"])]
-        cells += [rate(row["splits"], row["library"]) + ("*" if stopped else "")]
-        cells += [rate(row["splits"], row["independent"]), "%.2g" % (row["independent"] / row["library"])]
-        cells += [shown(whole[name], options.limit) for name in SERIES if name != "independent"] + [row["ahead"]]
-        if options.reference:
-            row["reference"] = reference(row, options.reference)
-            cells += [rate(row["splits"], row["reference"])]
-            cells += ["%.2g" % (row["reference"] / row[name]) for name in ("library", "independent")]
-        print_line(cells)
-        rows.append(row)
-        cut += ["{} {:,}".format(row["name"], row["at"])] if stopped else []
-        first += row["ahead"] == "library"
+        cells += [rate(row["splits"], row["reference"])]
+        cells += ["%.2g" % (row["reference"] / row[name]) for name in ("library", "independent")]
+    return cells
+
+
+def table_foot(rows, options):
+    """What is said of a table's rows together."""
     print()
+    cut = ["{} {:,}".format(row["name"], row["at"]) for row in rows if is_cut(row, options)]
     if cut:
         print("\\* on the first splits of the tree: %s." % ", ".join(cut))
     library = mean([row["independent"] / row["library"] for row in rows])
@@ -189,9 +198,28 @@ def table(strips, options):
     if options.reference:
         to_it = tuple(mean([row["reference"] / row[name] for row in rows]) for name in ("library", "independent"))
         print("Library to reference: %.2g. Independent search to reference: %.2g." % to_it)
-    print("The library is ahead of all three solvers on %d of %d filings." % (first, len(rows)))
+    first = sum(row["ahead"] == "library" for row in rows)
+    print("The library is ahead of all three solvers on %d of %d filings.\n" % (first, len(rows)))
+
+
+def table(strips, options):
+    """A table for each kind of filings; the picture has the first."""
+    kinds = {}
+    for row in measured(strips, options):
+        if row["kind"] not in kinds:
+            if kinds:
+                table_foot(list(kinds.values())[-1], options)
+            table_head(options)
+        row["whole"] = whole_runs(row, options)
+        row["ahead"] = ahead(row, row["whole"])
+        if options.reference:
+            row["reference"] = reference(row, options.reference, row["at"], row["splits"])
+        print_line(table_cells(row, options))
+        kinds.setdefault(row["kind"], []).append(row)
+    table_foot(list(kinds.values())[-1], options)
+    print("Splits a second are those of the tree: what is remembered counts, walked or not.")
     if options.picture:
-        run = picture.figures(rows, OUTCOMES, options.limit)
+        run = picture.figures(list(kinds.values())[0], OUTCOMES, options.limit)
         picture.save(run, FIGURES, options.picture)
         print("Measured %s." % run["measured"])
 
@@ -214,6 +242,52 @@ def growth(strips, options):
             print_line(cells)
 
 
+# The start and the longest split
+
+def longest_rows(strips, program=BENCH + "/longest"):
+    """One row for each strip, as target/bench/longest gives it: seconds by the library, by the independent search."""
+    done = subprocess.run([program] + strips, stdout=subprocess.PIPE, text=True, check=False)
+    for line in done.stdout.splitlines():
+        words = line.rsplit(None, 12)
+        if words[12] != "same":
+            sys.exit("%s: library and independent search differ: %s" % (words[0], line))
+        row = dict(zip(("n", "groups", "entries", "number", "count"), map(int, words[1:6])))
+        row.update(strip=words[0], name=name_of(words[0]), kind=os.path.basename(os.path.dirname(words[0])))
+        row.update(zip(("start", "split", "call"), zip(map(float, words[6:12:2]), map(float, words[7:12:2]))))
+        yield row
+    if done.returncode:
+        sys.exit(1)  # longest has said why
+
+
+def longest_head():
+    times = ["start us", "own us", "ratio", "longest split us", "own us", "ratio", "mean split us", "own us"]
+    head(FILING + ["splits"] + times)
+
+
+def longest_cells(row):
+    cells = filing_cells(row) + ["{:,}".format(row["count"])]
+    for name in ("start", "split"):
+        library, independent = (1e6 * seconds for seconds in row[name])
+        if row["count"] or name == "start":
+            cells += ["%.1f" % library, "%.1f" % independent]
+            cells += ["%.2g" % (independent / library) if independent > 0 and library > 1 else "-"]
+        else:
+            cells += ["-"] * 3
+    return cells + (["%.1f" % (1e6 * seconds / row["count"]) for seconds in row["call"]] if row["count"] else ["-"] * 2)
+
+
+def longest(strips):
+    """A table for each kind: what the worst filings cost, and how that grows."""
+    kind = None
+    for row in longest_rows(strips):
+        if row["kind"] != kind:
+            if kind is not None:
+                print()
+            longest_head()
+            kind = row["kind"]
+        print_line(longest_cells(row))
+
+
 def main():
     parser = argparse.ArgumentParser(description=__doc__, formatter_class=argparse.RawDescriptionHelpFormatter)
     parser.add_argument("--layout", default="target/bin/layout", help="the layout program")
@@ -226,9 +300,13 @@ def main():
                         help="a further program to measure; its answers are in the form of `bench` lines")
     parser.add_argument("--picture", help="the SVG file to write; its figures go to %s" % FIGURES)
     parser.add_argument("--growth", action="store_true", help="print how cost grows instead")
+    parser.add_argument("--longest", action="store_true", help="print starts and longest splits instead")
     parser.add_argument("strips", nargs="+")
     options = parser.parse_args()
-    (growth if options.growth else table)(options.strips, options)
+    if options.longest:
+        longest(options.strips)
+    else:
+        (growth if options.growth else table)(options.strips, options)
 
 
 if __name__ == "__main__":

@@ -76,20 +76,24 @@ PYTHONPATH=$prefix/share/platewright/python python3 tests/python_test.py 2>"$roo
     { cat "$room/python.log"; exit 1; }
 grep '^Ran ' "$room/python.log"
 
+# the search with a memory that can be made small is for these alone, and isn't installed
 step "trials beside the reference"
+rt staticlib memo_trial >"$room/memo_trial.log" 2>&1 || { cat "$room/memo_trial.log"; exit 1; }
+memo_trial=target/staticlib/libmemo_trial.a
 mkdir "$room/trials"
 (
     cd tests
     printf '%s\n' trials*.cpp | xargs -P "$(nproc)" -I{} \
         g++ -std=c++17 "${sanitized[@]}" -Wno-psabi "${with[@]}" -c {} -o "$room/trials/{}.o"
 )
-g++ "${sanitized[@]}" "$room"/trials/*.o "$archive" -lrapidcheck -o "$room/trials/trials"
+g++ -std=c++17 -O2 -Wall -Wextra -Werror -Wno-psabi "${with[@]}" -c tests/quick.cpp -o "$room/trials/quick.o"
+g++ "${sanitized[@]}" "$room"/trials/*.o "$archive" "$memo_trial" -lrapidcheck -o "$room/trials/trials"
 "$room/trials/trials" >"$room/trials.out" || { tail -n 60 "$room/trials.out"; exit 1; }
 matches trials "$room/trials.out" tests/trials.txt
 tail -n 1 "$room/trials.out"
 
 step "wrong programs"
-tests/wrong.sh "$archive" >"$room/wrong.out" || { cat "$room/wrong.out"; exit 1; }
+tests/wrong.sh "$archive" "$memo_trial" >"$room/wrong.out" || { cat "$room/wrong.out"; exit 1; }
 echo "$(grep -c ': found$' "$room/wrong.out") found"
 
 # layout: document 01's strip, strips of 16,384 and of 16,385 bytes, both in order, with chapters in between, a refusal

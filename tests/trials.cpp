@@ -178,7 +178,8 @@ struct Case {
 static const Case cases[] = {
     {"hand", hand_trial},     {"check", check_trial},   {"index", index_trial}, {"search", search_trial},
     {"settle", settle_trial}, {"list", list_trial},     {"edits", edits_trial}, {"read", read_trial},
-    {"save", save_trial},     {"window", window_trial}, {"trees", trees_trial}, {"properties", properties_trial},
+    {"save", save_trial},     {"window", window_trial}, {"trees", trees_trial},
+    {"memory", memory_trial}, {"properties", properties_trial},
 };
 
 #ifdef WRONG

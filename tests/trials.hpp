@@ -221,6 +221,18 @@ Entries any_group(size_t base, size_t n, const Entries &before, Random &random);
 enum { HARD_KINDS = 6 };
 Filing hard_filing(size_t kind, Random &random);
 
+/* The parts of such filings. Groups of so many entries, some of them left out where that is said. */
+Filing random_groups(size_t n, size_t groups, size_t size, bool signs, Random &random);
+/* Each of so many figures in one of so many boxes, at most one in a box: the last placements, before all are shuffled,
+ * say that a box is empty. */
+Filing boxes_filing(size_t figures, size_t boxes, Random &random);
+/* Pairs of neighbours on a board that lacks two cells of one colour, so that it can't be covered. */
+Filing board_filing(size_t width, size_t height, Random &random);
+/* Placements, one in so many, stand with the other sign: the tree is another one. */
+Filing turned(Filing f, size_t one_in, Random &random);
+
+void close(Entries &table, const Entries &group);
+
 /* Whether all choices of the placements that stand in groups can be tried. */
 enum { MOST_TRIED = 12 };
 inline bool can_try_all(const Filing &f) { return f.n - free_before(f) <= MOST_TRIED; }
@@ -231,6 +243,7 @@ void check_trial();
 void index_trial();
 void search_trial();
 void trees_trial();
+void memory_trial();
 void settle_trial();
 void list_trial();
 void edits_trial();

@@ -2,6 +2,7 @@
 #ifndef TRIALS_FACE_HPP
 #define TRIALS_FACE_HPP
 
+#include "../bench/memo_trial.hpp"
 #include "platewright.h"
 
 namespace library {
@@ -11,6 +12,7 @@ constexpr auto check_begin = platewright_check_begin;
 constexpr auto check_part = platewright_check_part;
 constexpr auto check_end = platewright_check_end;
 constexpr auto search = platewright_search;
+constexpr auto memo_search = memo_trial_search; /* the same with another memory */
 constexpr auto list = platewright_list;
 constexpr auto settle = platewright_settle;
 constexpr auto index = platewright_index;

@@ -4,6 +4,11 @@
 
 namespace trials {
 
+void close(Entries &table, const Entries &group) {
+    table.insert(table.end(), group.begin(), group.end());
+    table.push_back(0);
+}
+
 namespace {
 
 /* What a group is made for. */
@@ -70,11 +75,6 @@ Entries group_of(Kind kind, size_t size, const Shape &s, const Entries &before, 
     return group;
 }
 
-void close(Entries &table, const Entries &group) {
-    table.insert(table.end(), group.begin(), group.end());
-    table.push_back(0);
-}
-
 Filing filing_of_shape(const Shape &s, Random &r) {
     Filing f{s.base + s.placements, {}};
     Entries group;
@@ -133,6 +133,8 @@ Filing limit_filing(size_t kind, Random &r) {
     return f;
 }
 
+} // namespace
+
 /* Hard ones */
 
 Filing random_groups(size_t n, size_t groups, size_t size, bool signs, Random &r) {
@@ -150,7 +152,7 @@ Filing random_groups(size_t n, size_t groups, size_t size, bool signs, Random &r
 }
 
 /* Each placement is a piece that covers some of the cells, each group a cell that is to be covered once. */
-Filing exact_cover(size_t pieces, size_t cells, size_t size, Random &r) {
+static Filing exact_cover(size_t pieces, size_t cells, size_t size, Random &r) {
     std::vector<Entries> covers(cells);
     for (size_t p = 1; p <= pieces; p++)
         for (size_t i = 0; i < size; i++) {
@@ -162,8 +164,6 @@ Filing exact_cover(size_t pieces, size_t cells, size_t size, Random &r) {
     return f;
 }
 
-/* Each of so many figures in one of so many boxes, at most one in a box: the last placements say that a box is empty.
- */
 Filing boxes_filing(size_t figures, size_t boxes, Random &r) {
     Filing f{figures * boxes + boxes, {}};
     Entries number;
@@ -183,7 +183,6 @@ Filing boxes_filing(size_t figures, size_t boxes, Random &r) {
     return f;
 }
 
-/* Pairs of neighbours on a board that lacks two cells of one colour, so that it can't be covered. */
 Filing board_filing(size_t width, size_t height, Random &r) {
     size_t first = 2 * r.below(width / 2), second = width * 2 + 2 * r.below(width / 2);
     std::vector<Entries> cells(width * height);
@@ -203,8 +202,6 @@ Filing board_filing(size_t width, size_t height, Random &r) {
         if (c != first && c != second) close(f.table, cells[c]);
     return f;
 }
-
-} // namespace
 
 Filing filing_of(size_t number) {
     Random r(number);
@@ -244,7 +241,6 @@ Filing completed(const Filing &f, Random &random) {
     return full;
 }
 
-/* The placements of one set in so many stand with the other sign: the tree is another one. */
 Filing turned(Filing f, size_t one_in, Random &r) {
     std::vector<int> sign(f.n + 1, 1);
     for (int &s : sign) s = r.once_in(one_in) ? -1 : 1;

@@ -1,56 +1,24 @@
 /* Large trees of search and list, beside the quick walks of bench/search.hpp and bench/list.hpp, which are themselves
  * compared with the walks by the letter on thousands of small filings and on the smaller ones of the hard filings. */
+#include "quick.hpp"
 #include "trials_search.hpp"
-
-#pragma GCC diagnostic ignored "-Wpsabi"
-#include "../bench/list.hpp"
 
 namespace trials {
 
 namespace {
 
-own::Filing own_filing(const Filing &f) {
-    own::Filing filing;
-    filing.n = (int)f.n;
-    filing.table.assign(f.table.begin(), f.table.end());
-    return filing;
-}
-
-bool is_narrow(const Filing &f) { return f.n <= 128 && groups_in(f.table) <= 64; }
-
-Tree quick_tree(const Filing &f) {
-    own::Filing filing = own_filing(f);
-    own::Answer a = is_narrow(f) ? own::walk<2, 1>(filing, UINT32_MAX) : own::walk<4, 8>(filing, UINT32_MAX);
-    return {(uint32_t)a.number, a.count, a.plan, Entries(a.trail.begin(), a.trail.end())};
-}
-
-struct Quick_list {
-    own::Listing listing;
-    Bytes rows; /* k times n bytes */
-};
-
-Quick_list quick_list(const Filing &f, size_t k, uint32_t allowance) {
-    own::Filing filing = own_filing(f);
-    Bytes rows(k * f.n + 1); /* one more, so that there is something to point at */
-    own::Listing listing = is_narrow(f) ? own::list_walk<2, 1>(filing, k, allowance, rows.data())
-                                        : own::list_walk<4, 8>(filing, k, allowance, rows.data());
-    rows.pop_back();
-    return {listing, rows};
-}
-
 /* What List must answer with this allowance, from the walk with a larger one. */
-Listed cut_list(const Quick_list &whole, uint32_t allowance, Bytes rows) {
-    const own::Listing &l = whole.listing;
-    bool stopped = l.number == own::STOPPED || allowance < l.count;
-    Answer a = answer(stopped ? PLATEWRIGHT_STOPPED : (uint32_t)l.number, stopped ? 0 : l.rows);
-    a.count = stopped ? allowance : l.count;
+Listed cut_list(const quick::Listing &whole, uint32_t allowance, Bytes rows) {
+    bool stopped = whole.number == PLATEWRIGHT_STOPPED || allowance < whole.count;
+    Answer a = answer(stopped ? PLATEWRIGHT_STOPPED : whole.number, stopped ? 0 : whole.rows);
+    a.count = stopped ? allowance : whole.count;
     a.rows = a.place;
-    a.more = !stopped && l.more;
-    put_first(rows, stopped ? Bytes(whole.rows.size()) : whole.rows);
+    a.more = !stopped && whole.more;
+    put_first(rows, stopped ? Bytes(whole.bytes.size()) : whole.bytes);
     return {a, rows};
 }
 
-void list_once(const Filing &f, const Quick_list &whole, size_t k, uint32_t allowance, Tally &tally) {
+void list_once(const Filing &f, const quick::Listing &whole, size_t k, uint32_t allowance, Tally &tally) {
     Lent<int16_t> table(f.table);
     Lent<uint8_t> rows(filler<uint8_t>(k * f.n + 3));
     Listed expected = cut_list(whole, allowance, rows.now());
@@ -68,9 +36,9 @@ void list_once(const Filing &f, const Quick_list &whole, size_t k, uint32_t allo
 enum { MOST_LIST_SPLITS = 5000 };
 
 void list_filing(const Filing &f, size_t k, Random &r, Tally &tally) {
-    Quick_list whole = quick_list(f, k, MOST_LIST_SPLITS);
-    uint32_t count = whole.listing.count;
-    bool stopped = whole.listing.number == own::STOPPED;
+    quick::Listing whole = quick::list_of(f, k, MOST_LIST_SPLITS);
+    uint32_t count = whole.count;
+    bool stopped = whole.number == PLATEWRIGHT_STOPPED;
     list_once(f, whole, k, stopped ? (uint32_t)MOST_LIST_SPLITS : UINT32_MAX, tally);
     std::vector<uint32_t> allowances = {count, 0};
     if (count > 0) allowances.insert(allowances.end(), {count - 1, count / 2, (uint32_t)r.below(count)});
@@ -94,7 +62,7 @@ void count_tree(const Filing &f, const Tree &tree, Tally &tally) {
 
 void tree_filing(const Filing &f, Random r, Tally &tally) {
     if (!passes(check(f.table, f.n))) return;
-    Tree tree = quick_tree(f);
+    Tree tree = quick::tree_of(f);
     if (tree.count <= BY_LETTER) {
         compare_trees("the quick tree", Search(f, UINT32_MAX).run(), tree);
         tally.add("hard trees walked by the letter too");
@@ -110,12 +78,12 @@ void tree_filing(const Filing &f, Random r, Tally &tally) {
 /* The quick walks beside those by the letter. */
 void compare_quick(const Filing &f, Random r, Tally &tally) {
     if (!passes(check(f.table, f.n)) || f.table.size() > 400) return;
-    compare_trees("the quick tree", Search(f, UINT32_MAX).run(), quick_tree(f));
+    compare_trees("the quick tree", Search(f, UINT32_MAX).run(), quick::tree_of(f));
     size_t k = r.below(4);
     Walk walk = Lister(f, k + 1, MOST_LIST_SPLITS).run();
-    Quick_list quick = quick_list(f, k, MOST_LIST_SPLITS);
+    quick::Listing whole = quick::list_of(f, k, MOST_LIST_SPLITS);
     Listed expected = list(walk, f.n, k, MOST_LIST_SPLITS, Bytes(k * f.n)),
-           came = cut_list(quick, MOST_LIST_SPLITS, quick.rows);
+           came = cut_list(whole, MOST_LIST_SPLITS, whole.bytes);
     Comparison c;
     c.same(expected.answer, came.answer);
     c.same("rows", expected.rows, came.rows);

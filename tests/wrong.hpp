@@ -38,6 +38,15 @@
     X(COUNT_OF_10_BITS, "trees", "count kept in 10 bits")                                                              \
     X(TRAIL_OF_32, "trees", "trail keeps 32 splits")                                                                   \
     X(LIST_COUNT_OF_10_BITS, "trees", "list's count kept in 10 bits")                                                  \
+    X(FIRST_SIDE_LOST, "memory", "a remembered count without the first side")                                          \
+    X(ONE_MORE_REMEMBERED, "memory", "a remembered count one too many")                                                \
+    X(STOP_FORGOTTEN, "memory", "a remembered subtree beyond the allowance as no layout")                              \
+    X(STOP_AT_REMEMBERED, "memory", "stopped where what is left is just the remembered count")                         \
+    X(TIES_NOT_IN_KEY, "memory", "a key without ties")                                                                 \
+    X(SPLIT_CLASS_NOT_IN_KEY, "memory", "a key without what is tied to the split's placement")                         \
+    X(KEY_OF_FIRST_SIDE, "memory", "the key of the first side's state")                                                \
+    X(PENDING_OVERWRITTEN, "memory", "a slot that is held is given to another subtree")                                \
+    X(HASH_FOR_KEY, "memory", "equal hashes for equal keys")                                                           \
     X(MORE_AT_K, "list", "more at exactly k")                                                                          \
     X(ROWS_LEFT, "list", "unused rows left as they were")                                                              \
     X(ROWS_KEPT_ON_STOP, "list", "rows kept on a stop")                                                                \
@@ -294,6 +303,18 @@ inline Answer search(const int16_t *table, size_t length, size_t n, uint32_t all
     if (is(OTHER_SIDE) && a.number == PLATEWRIGHT_LAID_OUT && a.count > 0) plan[size_of(trail[0]) - 1] ^= 1;
     wrong_trail(trail, trail_was, n);
     return a.number == PLATEWRIGHT_STOPPED ? wrong_stop(a, was, plan, n) : a;
+}
+
+/* The search with a memory that has a fault of its own (wrong_memory.cpp). */
+memo_trial remembering(const int16_t *table, size_t length, size_t n, uint32_t allowance, uint8_t *plan, int16_t *trail,
+                       size_t slots, uint32_t spread);
+
+inline bool in_memory() { return chosen() >= FIRST_SIDE_LOST && chosen() <= HASH_FOR_KEY; }
+
+inline memo_trial memo_search(const int16_t *table, size_t length, size_t n, uint32_t allowance, uint8_t *plan,
+                              size_t plan_len, int16_t *trail, size_t trail_len, size_t slots, uint32_t spread) {
+    if (in_memory()) return remembering(table, length, n, allowance, plan, trail, slots, spread);
+    return library::memo_search(table, length, n, allowance, plan, plan_len, trail, trail_len, slots, spread);
 }
 
 /* List */

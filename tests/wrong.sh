@@ -1,17 +1,19 @@
 #!/usr/bin/env bash
 # Tries every wrong program of wrong.hpp: each must be found by the trials of its operation. Prints a line for each, and
 # ends with 1 where one is not found.
-# Usage: tests/wrong.sh libplatewright.a
+# Usage: tests/wrong.sh libplatewright.a libmemo_trial.a
 set -eu
-archive=$(realpath "$1")
+archives=("$(realpath "$1")" "$(realpath "$2")")
 cd "$(dirname "$0")"
 work=$(mktemp -d)
 trap 'rm -rf "$work"' EXIT
 flags=(-std=c++17 -O1 -Wall -Wextra -Werror -Wno-psabi -DWRONG -I../include)
 printf '%s\n' trials*.cpp | xargs -P "$(nproc)" -I{} g++ "${flags[@]}" -c {} -o "$work/{}.o"
-g++ "$work"/*.o "$archive" -lrapidcheck -o "$work/trials"
+for walk in quick wrong_memory; do g++ "${flags[@]}" -O2 -c "$walk.cpp" -o "$work/$walk.o"; done
+g++ "$work"/*.o "${archives[@]}" -lrapidcheck -o "$work/trials"
 
-# without a fault the same program agrees, so what is found is the fault (large trees apart, which take longer)
+# without a fault the same program agrees, so what is found is the fault (large trees and the memory apart, which take
+# longer)
 "$work/trials" hand check index search settle list edits read save window properties >/dev/null
 echo "no fault: nothing found"
 

@@ -11,8 +11,7 @@ use Rattle.theory.specs.State.{standing, assign, WellFormed}
 use Rattle.theory.proofs.States.{Refines, refines-assign}
 use Rattle.theory.proofs.Counts.{openCount}
 use Rattle.theory.proofs.Recounts.{opens-step}
-use Rattle.theory.proofs.PairsBut.{PairsBut}
-use Rattle.theory.proofs.Paired.{none-paired, paired-decided}
+use Rattle.theory.proofs.Paired.{Paired, paired-weaken, paired-decided}
 use Rattle.theory.proofs.DistinctBut.{DistinctBut, distinct-decided}
 use Rattle.theory.proofs.ByCount.{ByCount, all-true, two-open, three-open}
 use Rattle.occurrences.specs.Index.{clauseCount, clauseOf, formulaOf}
@@ -53,7 +52,7 @@ module _ {ix st wk : List ℕ} (sound : Sound ix st wk) (rests : (g : ℕ) → g
   }
 
   -- a side of a split: an open literal was decided
-  pub ready-decided : notesOf wk .blocksEnd ≡ 0 → WellFormed maxVariables (stateIn st) → DistinctBut (λ p. ⊥) (formulaOf ix) (stateIn st) → PairsBut (λ p. ⊥) (formulaOf ix) (stateIn st) →
+  pub ready-decided : notesOf wk .blocksEnd ≡ 0 → WellFormed maxVariables (stateIn st) → DistinctBut (λ p. ⊥) (formulaOf ix) (stateIn st) → Paired (λ g h. ⊥) (formulaOf ix) (stateIn st) →
       {st′ wk′ : List ℕ} {x : ℕ} → 1 < x → stateIn st′ ≡ assign (literalAt x) FALSE (stateIn st) → Moved ix st wk st′ wk′ → WellFormed maxVariables (stateIn st′) → Ready ix st′ wk′ 0 0
   ready-decided none well distinct pairs {st′} {wk′} {x} o is m well′ = record {
     sound = m .went .sound;
@@ -61,7 +60,7 @@ module _ {ix st wk : List ℕ} (sound : Sound ix st wk) (rests : (g : ℕ) → g
     short = short-kept sound (m .went .sound) (m .went .noting) fewer (omega arith) refines (omega arith) short-rests;
     distinct = rw is (distinct-decided distinct (literalAt x) FALSE opened refl);
     blocks = record { at = λ i h. absurd (omega (arith, none, m .went .blocksEnd)) };
-    pairs = rw is (paired-decided (literalAt x) FALSE opened refl (none-paired pairs));
+    pairs = rw is (paired-decided (literalAt x) FALSE opened refl (paired-weaken (λ g h i. absurd i) pairs));
   }
     where
       opened : 0 < var (literalAt x)

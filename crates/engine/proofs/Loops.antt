@@ -9,7 +9,7 @@ use lib.ListN.{getD}
 use Rattle.literal.specs.Literal.{maxVariables}
 use Rattle.theory.specs.State.{standing, WellFormed}
 use Rattle.theory.proofs.Propagation.{Steps, none-left}
-use Rattle.theory.proofs.Paired.{paired-weaken, paired-none}
+use Rattle.theory.proofs.Paired.{paired-weaken}
 use Rattle.theory.proofs.DistinctBut.{repeats-none}
 use Rattle.theory.proofs.ByCount.{ByCount, all-true, two-open, three-open}
 use Rattle.theory.proofs.Falls.{Falls, still, falls-trans, falls-well, falls-steps, steps-trans}
@@ -120,7 +120,7 @@ module _ {ix st₀ st wk : List ℕ} {twos : ℕ} (q : Going ix st₀ st wk twos
     sound = q .ready .sound;
     counted = counted;
     distinct = q .ready .distinct;
-    pairs = paired-none (paired-weaken (λ g h l. absurd (omega (arith, l .1))) (q .ready .pairs));
+    pairs = paired-weaken (λ g h l. omega (arith, l .1)) (q .ready .pairs);
   }
     where
       none : (g : ℕ) → Noted (notesOf wk) (notesOf wk .todoEnd) g → ⊥

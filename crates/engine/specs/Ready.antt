@@ -5,7 +5,6 @@ use Prim.Native.Nat.{ℕ, _<_}
 use Rattle.literal.specs.Literal.{maxVariables}
 use Rattle.theory.specs.State.{standing, WellFormed}
 use Rattle.theory.proofs.Propagation.{Steps}
-use Rattle.theory.proofs.PairsBut.{PairsBut}
 use Rattle.theory.proofs.Paired.{Paired}
 use Rattle.theory.proofs.DistinctBut.{DistinctBut}
 use Rattle.theory.proofs.ByCount.{ByCount}
@@ -32,7 +31,7 @@ pub record Rested (ix st st′ wk′ : List ℕ) : Type 0 where
   pub sound : Sound ix st′ wk′
   pub counted : (g : ℕ) → g < clauseCount ix → ByCount (standing (stateIn st′) (clauseOf ix g))
   pub distinct : DistinctBut (λ p. ⊥) (formulaOf ix) (stateIn st′)
-  pub pairs : PairsBut (λ p. ⊥) (formulaOf ix) (stateIn st′)
+  pub pairs : Paired (λ g h. ⊥) (formulaOf ix) (stateIn st′)
 
 -- after a dead end (true) nothing is known of the state and the lists
 abbrev pub Propagated : (ix st st′ wk′ : List ℕ) → Bool → Type 0

@@ -3,22 +3,22 @@ use mathlib.Core.Path.{_≡_, refl, ap, _∙_}
 use mathlib.Core.Bool.{true, false}
 use mathlib.Core.Logic.{_≢_}
 use mathlib.Core.List.{List, [], _∷_}
-use Prim.Native.Nat.{ℕ, _+_, _/_, _≤_, _<_}
+use Prim.Native.Nat.{ℕ, _+_, _≤_, _<_}
 use native.Mathlib.Decide.{decLt, ℕ-discrete as decEq}
 use native.Mathlib.Omega.{arith}
 use lib.ListN.{getD}
 use Rattle.general.specs.Sums.{sum}
-use Rattle.literal.specs.Literal.{maxVariables, maxLiterals}
+use Rattle.literal.specs.Literal.{maxLiterals}
 use Rattle.theory.specs.State.{standing}
 use Rattle.theory.proofs.Counts.{mentions, Wide, Holds, mentions-holds}
 use Rattle.occurrences.specs.Index.{Indexed, clauseCount, clauseOf, width}
-use Rattle.tally.specs.Tally.{tallyOf, stateIn, valueIn, linkIn}
+use Rattle.tally.specs.Tally.{tallyOf, stateIn, linkIn}
 use Rattle.tally.specs.Ring.{Ring}
 use Rattle.tally.specs.Stretch.{Stretch, Reaches}
 use Rattle.tally.proofs.Stretches.{ring-class, ring-stretch, holds-reached, stretch-goes, stretch-unique}
 use Rattle.notes.specs.Notes.{notesOf, Gathered}
 use Rattle.gather.specs.declared.Sign.the-variants.{Either}
-use Rattle.gather.specs.Gathering.{AtRoot, Beside, Gathering, WideIn, Written, WrittenAs, Collecting, Collected, Gatherable, GatheredAlong, Stands, StandsLive}
+use Rattle.gather.specs.Gathering.{AtRoot, Beside, Gathering, WideIn, Written, Collecting, Collected, Gatherable, GatheredAlong, Stands, StandsLive}
 use Rattle.gather.proofs.Written.{mem-written, written-mentions, wide-in, in-wide}
 use Rattle.gather.proofs.Placed.{distinct-width}
 use Rattle.gather.proofs.Along.{Along, along-begins, along-known, along-among, along-goes, along-ends}

@@ -1,5 +1,5 @@
 -- A clause as it stands mentions root r exactly when a variable of the class of r stands in it; a count says which clauses are wide.
-use mathlib.Core.Path.{_≡_, ap, sym, _∙_}
+use mathlib.Core.Path.{_≡_, ap, _∙_}
 use mathlib.Core.Bool.{true}
 use mathlib.Core.List.{List, List·Memᴰ}
 use Prim.Native.Nat.{ℕ, _+_, _*_, _/_, _≤_, _<_}
@@ -15,8 +15,8 @@ use Rattle.literal.specs.Literal.{var, literalAt, maxVariables}
 use Rattle.literal.proofs.Codes.{literalAt-codeOf, var-at}
 use Rattle.theory.specs.State.{value, standing}
 use Rattle.theory.proofs.States.{value-variable}
-use Rattle.theory.proofs.Clauses.{mem-occurs, occurs-mem, standing-mem, mem-standing}
-use Rattle.theory.proofs.Counts.{mentions, Wide, holds-mentions, mentions-holds}
+use Rattle.theory.proofs.Clauses.{mem-occurs, occurs-mem, mem-standing}
+use Rattle.theory.proofs.Counts.{mentions, Wide, holds-mentions}
 use Rattle.state.specs.State.{stateOf}
 use Rattle.state.proofs.Values.{stateOf-inside}
 use Rattle.occurrences.specs.Index.{Indexed, clauseCount, clauseOf, codeAt, startAt}
@@ -47,14 +47,6 @@ module _ {ix : List ℕ} (index : Indexed ix) (g : ℕ) (inside : g < clauseCoun
       go (Neg p) m b = (1, omega arith, rw (index .each p g 1 b inside (omega arith), literalAt-codeOf (Neg p)) (mem-occurs (clauseOf ix g) (Neg p) m))
 
   module _ (v : List ℕ) (r : ℕ) (opened : 0 < r) where
-    -- a variable of the class that stands in the clause
-    pub mentions-written : 0 < mentions r (standing (stateOf v) (clauseOf ix g)) → (q : ℕ) × (getD v q 0 / 2 ≡ r) × Written ix q g
-    mentions-written h =
-        let y = mentions-holds r (standing (stateOf v) (clauseOf ix g)) h in
-        let w = standing-mem (stateOf v) (clauseOf ix g) (y .0) (y .1) in
-        let l = w .written in
-        (var l, sym (stands-for v (var l) (known l (w .member))) ∙ sym (value-variable (stateOf v) l) ∙ ap var (w .valued) ∙ y .2, mem-written l (w .member))
-
     pub written-mentions : (q : ℕ) → q ≤ maxVariables → getD v q 0 / 2 ≡ r → Written ix q g → 0 < mentions r (standing (stateOf v) (clauseOf ix g))
     written-mentions q b e w =
         let l = literalAt (2 * q + w .0) in

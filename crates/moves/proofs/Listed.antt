@@ -1,5 +1,5 @@
 -- What is listed stays listed: by no step, by two, and by variables that fall.
-use mathlib.Core.Path.{_≡_, ap, sym, subst, _∙_}
+use mathlib.Core.Path.{ap, sym, subst, _∙_}
 use mathlib.Core.List.{List}
 use Prim.Native.Nat.{ℕ}
 use native.Mathlib.Omega.{arith}
@@ -7,11 +7,10 @@ use lib.ListN.{getD}
 use Rattle.theory.specs.Formula.{Clause}
 use Rattle.theory.proofs.Falls.{Falls}
 use Rattle.occurrences.specs.Index.{formulaOf}
-use Rattle.tally.specs.Tally.{tallyOf, stateIn}
+use Rattle.tally.specs.Tally.{stateIn}
 use Rattle.tally.proofs.Stretches.{followed-trans, followed-falls}
 use Rattle.tally.proofs.Blocks.{spans-kept, lists-kept}
 use Rattle.notes.specs.declared.Block.{Block}
-use Rattle.notes.specs.Notes.{Notes, notesOf, blockAt}
 use Rattle.moves.specs.Sound.{Sound}
 use Rattle.moves.specs.Moving.{Moved}
 use Rattle.moves.specs.Listing.{ListsIn, Listed, SpansIn, Blocks, Carried}
@@ -38,9 +37,6 @@ module _ {ix st wk st′ wk′ : List ℕ} (s : Sound ix st wk) (f : Falls (form
   blocks-fell k = record { at = λ i h. rw (m .went .blocks) (spans-kept (carried-fell .followed) (k .at i (omega (arith, m .went .blocksEnd)))) }
 
 module _ {st wk st′ wk′ : List ℕ} (c : Carried st wk st′ wk′) where
-  pub lists-carried : (b : Block) {g h : Clause} → ListsIn st b g h → ListsIn st′ b g h
-  lists-carried b = lists-kept (c .followed)
-
   pub spans-carried : (b : Block) → SpansIn st b → SpansIn st′ b
   spans-carried b = spans-kept (c .followed)
 

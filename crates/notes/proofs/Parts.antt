@@ -7,7 +7,7 @@ use lib.ListN.{getD, set, length-set}
 use lib.Seq.{getD-set-same, getD-set-other}
 use Rattle.general.specs.Parts.{part-at, part-set, part-before, part-after}
 use Rattle.literal.specs.Literal.{maxTable}
-use Rattle.notes.specs.Notes.{Notes, notesOf, blockAt, withTodo, withTodoEnd, withWord, withBlock, withBlocksEnd, withGathered, Whole, maxBlocks, maxGathered, todoEndAt, blocksFrom, blocksEndAt, gatheredFrom}
+use Rattle.notes.specs.Notes.{Notes, notesOf, withTodo, withTodoEnd, withWord, withBlocksEnd, withGathered, Whole, maxBlocks, maxGathered, todoEndAt, blocksFrom, blocksEndAt, gatheredFrom}
 
 same-parts : {a b : Notes} → a .todo ≡ b .todo → a .todoEnd ≡ b .todoEnd → a .blocks ≡ b .blocks → a .blocksEnd ≡ b .blocksEnd → a .gathered ≡ b .gathered → a ≡ b
 same-parts {a} {b} t m r n g =

@@ -9,7 +9,9 @@ use Rattle.literal.specs.declared.Literal.{Literal}
 use Rattle.receipt.proofs.Outcome.{enum}
 use Rattle.receipt.specs.declared.Outcome.{Outcome}
 use Rattle.receipt.specs.declared.Outcome.the-variants.{LaidOut, NoLayout, Stopped}
+use Rattle.memo.specs.declared.Held.{Held}
 use Rattle.search.specs.Walk.{noted}
+use Rattle.search.specs.Learning.{LearntOf}
 
 abbrev tag : Outcome → ℕ
 tag = tagOf (declared enum)
@@ -22,3 +24,9 @@ pub noted-other : (o : Outcome) (d : ℕ) (x : Literal) (t : List ℤ) → ¬ (o
 noted-other LaidOut d x t h = absurd (h refl)
 noted-other NoLayout d x t h = refl
 noted-other Stopped d x t h = refl
+
+-- nothing is learned
+pub learnt-other : (n c : ℕ) (m : List ℕ) (held : Held) (o : Outcome) → ¬ (o ≡ NoLayout) → LearntOf n c m m held o
+learnt-other n c m held LaidOut h = refl
+learnt-other n c m held NoLayout h = absurd (h refl)
+learnt-other n c m held Stopped h = refl

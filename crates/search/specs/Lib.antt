@@ -1,3 +1,4 @@
 pub mod Branch
 pub mod Walk
 pub mod Call
+pub mod Learning

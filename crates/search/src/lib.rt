@@ -1,18 +1,24 @@
 // Search: the first layout of a table, by the split tree of document 01.
 ghost use mathlib.Core.Path.{_≡_};
-ghost use Prim.Native.Nat.{_≤_};
+ghost use Prim.Native.Nat.{_+_, _≤_};
+ghost use mir.Syntax.{w32};
+ghost use mir.Val.{Fits};
 ghost use Rattle.literal.specs.Literal.{maxVariables};
 ghost use Rattle.theory.specs.Search.{branchVariable};
 ghost use Rattle.theory.specs.Calls.{searchCall};
 ghost use Rattle.occurrences.specs.Index.{formulaOf};
 ghost use Rattle.tally.specs.Tally.{stateIn};
 ghost use Rattle.notes.specs.Notes.{Whole};
+ghost use Rattle.memo.specs.Memory.{Empty, Remembering, Remembered, Keepable};
 ghost use Rattle.side.specs.Branch.{branchOf};
 ghost use Rattle.search.specs.Branch.{Branching, BranchesOn, Branchable};
 ghost use Rattle.search.specs.Walk.{Walkable, Splittable, walked, walkFrom, splitWalk, tableWalk, Searchable, Passable, counted, noted, under};
 ghost use Rattle.search.specs.Call.{called};
+ghost use Rattle.search.specs.Learning.{LearntOf};
 use literal::Literal;
 use literal::Variable;
+use memo::Held;
+use memo::Memory;
 use notes::Notes;
 use occurrences::Index;
 use receipt::Checked;
@@ -78,19 +84,23 @@ fn below(level: Level, p: Variable, left: u32) -> Level
     }
 }
 
-// "Settling hands over to the split": a dead end, a layout, or a split on the lowest open variable of a live clause.
+// "Settling hands over to the split": a dead end, a layout, or a split on the lowest open variable of a live clause. A split that is known to have no layout
+// is counted without being walked.
 fn settle_and_decide(
     index: &Index,
     state: &mut Tally,
     work: &mut Notes,
+    memory: &mut Memory,
     dead: bool,
     level: Level,
     plan: &mut [u8],
     trail: &mut [i16],
 ) -> Walk
     requires { ⌜ Walkable (now index) (now state) (now work) dead level (now plan) (now trail) ⌝ }
+    requires { ⌜ Remembering (level .variables) (formulaOf (now index)) (now memory) ⌝ }
     ensures walks { λ r. ⌜ walked r (now (plan .exit)) (now (trail .exit)) ≡ walkFrom dead level (now (index .entry)) (now (state .entry)) (now (plan .entry)) (now (trail .entry)) ⌝ }
     ensures whole { λ _. ⌜ Whole (now (work .exit)) ⌝ }
+    ensures remembers { λ _. ⌜ Remembered (level .variables) (formulaOf (now (index .entry))) (now (memory .entry)) (now (memory .exit)) ⌝ }
 {
     if dead {
         return Walk {
@@ -112,7 +122,20 @@ fn settle_and_decide(
             count: 0,
         };
     };
-    split(index, state, work, p, level, plan, trail)
+    let known = memo::remembered(memory, state, p.0 as usize, level.variables);
+    if known == 0 {
+        return split(index, state, work, memory, p, level, plan, trail);
+    }
+    if known <= level.left {
+        return Walk {
+            outcome: Outcome::NoLayout,
+            count: known,
+        };
+    }
+    Walk {
+        outcome: Outcome::Stopped,
+        count: level.left,
+    }
 }
 
 // "try it left out, and only if that has no layout try it taken". The second side starts from the copy made before the first side runs.
@@ -120,14 +143,17 @@ fn split(
     index: &Index,
     state: &mut Tally,
     work: &mut Notes,
+    memory: &mut Memory,
     p: Variable,
     level: Level,
     plan: &mut [u8],
     trail: &mut [i16],
 ) -> Walk
     requires { ⌜ Splittable (now index) (now state) (now work) (p .0) level (now plan) (now trail) ⌝ }
+    requires { ⌜ Remembering (level .variables) (formulaOf (now index)) (now memory) ⌝ }
     ensures walks { λ r. ⌜ walked r (now (plan .exit)) (now (trail .exit)) ≡ splitWalk (p .0) level (now (index .entry)) (now (state .entry)) (now (plan .entry)) (now (trail .entry)) ⌝ }
     ensures whole { λ _. ⌜ Whole (now (work .exit)) ⌝ }
+    ensures remembers { λ _. ⌜ Remembered (level .variables) (formulaOf (now (index .entry))) (now (memory .entry)) (now (memory .exit)) ⌝ }
 {
     if level.left == 0 {
         return Walk {
@@ -135,6 +161,7 @@ fn split(
             count: 0,
         };
     }
+    memo::count_split(memory);
     let mut second = *state;
     let x = Literal::new(p, true);
     let out = side::begin(index, state, work, x.code());
@@ -142,6 +169,7 @@ fn split(
         index,
         state,
         work,
+        memory,
         out,
         below(level, p, level.left - 1),
         plan,
@@ -152,17 +180,33 @@ fn split(
         return through(a, 1, x.opposite(), level.depth, trail);
     };
     let used = 1 + a.count;
+    let held = memo::hold(memory, &second, p.0 as usize, level.variables, used);
     let taken = side::begin(index, &mut second, work, x.opposite().code());
     let b = settle_and_decide(
         index,
         &mut second,
         work,
+        memory,
         taken,
         below(level, p, level.left - used),
         plan,
         trail,
     );
+    learn(memory, held, level.variables, b, used);
     through(b, used, x, level.depth, trail)
+}
+
+// Where the second side has no layout either, the slot that is held for the split learns its splits.
+fn learn(memory: &mut Memory, held: Held, n: usize, side: Walk, used: u32)
+    requires { ⌜ Keepable n (now memory) held ⌝ }
+    requires { ⌜ Fits w32 (used + side .count) ⌝ }
+    ensures { λ _. ⌜ LearntOf n (used + side .count) (now (memory .entry)) (now (memory .exit)) held (side .outcome) ⌝ }
+{
+    let end = side.outcome;
+    let Outcome::NoLayout = end else {
+        return;
+    };
+    memo::keep(memory, held, n, used + side.count);
 }
 
 // A walk of one side, as a walk of the split: its splits count on, and on the path to a layout the side is written at its depth.
@@ -183,8 +227,16 @@ fn through(side: Walk, splits: u32, x: Literal, depth: usize, trail: &mut [i16])
 }
 
 // The walk of a checked table from the initial state.
-fn walk_table(table: &[i16], n: usize, allowance: u32, plan: &mut [u8], trail: &mut [i16]) -> Walk
+fn walk_table(
+    table: &[i16],
+    n: usize,
+    allowance: u32,
+    memory: &mut Memory,
+    plan: &mut [u8],
+    trail: &mut [i16],
+) -> Walk
     requires { ⌜ Searchable n (now table) (now plan) (now trail) ⌝ }
+    requires { ⌜ Empty n (now memory) ⌝ }
     ensures { λ r. ⌜ walked r (now (plan .exit)) (now (trail .exit)) ≡ tableWalk n (now (table .entry)) allowance (now (plan .entry)) (now (trail .entry)) ⌝ }
 {
     let index = occurrences::build(table);
@@ -201,11 +253,62 @@ fn walk_table(table: &[i16], n: usize, allowance: u32, plan: &mut [u8], trail: &
         &index.words,
         &mut state,
         &mut work,
+        memory,
         dead,
         level,
         plan,
         trail,
     )
+}
+
+// An answer, and how many splits were made for it: those that were known are in its count alone.
+pub struct Tried {
+    pub answer: Searching,
+    pub walked: u32,
+}
+
+// Search with so many slots of the memo, and weights of its hash that spread so far: no answer depends on either.
+pub fn search_with(
+    table: &[i16],
+    n: usize,
+    allowance: u32,
+    plan: &mut [u8],
+    trail: &mut [i16],
+    slots: usize,
+    spread: usize,
+) -> Tried
+    ensures { λ r. ⌜ called (r .answer) (now (plan .exit)) (now (trail .exit)) ≡ searchCall n (now (table .entry)) allowance (now (plan .entry)) (now (trail .entry)) ⌝ }
+{
+    let checked = table::check_table(table, n);
+    if let Checked::Refused(refusal) = checked {
+        return Tried {
+            answer: Searching::Refused(refusal),
+            walked: 0,
+        };
+    }
+    if plan.len() < n {
+        return Tried {
+            answer: Searching::Refused(Refusal::new(Fault::PlanShort, 0)),
+            walked: 0,
+        };
+    }
+    if trail.len() < n {
+        return Tried {
+            answer: Searching::Refused(Refusal::new(Fault::TrailShort, 0)),
+            walked: 0,
+        };
+    }
+    fill::clear_bytes(plan, 0, n);
+    fill::clear_numbers(trail, 0, n);
+    let mut memory = [0u16; memo::SIZE];
+    memo::begin(&mut memory, n, slots, spread);
+    let walk = walk_table(table, n, allowance, &mut memory, plan, trail);
+    let outcome = walk.outcome;
+    let count = walk.count;
+    Tried {
+        answer: Searching::Ended { outcome, count },
+        walked: memo::walked(&memory),
+    }
 }
 
 pub fn search(
@@ -217,20 +320,14 @@ pub fn search(
 ) -> Searching
     ensures { λ r. ⌜ called r (now (plan .exit)) (now (trail .exit)) ≡ searchCall n (now (table .entry)) allowance (now (plan .entry)) (now (trail .entry)) ⌝ }
 {
-    let checked = table::check_table(table, n);
-    if let Checked::Refused(refusal) = checked {
-        return Searching::Refused(refusal);
-    }
-    if plan.len() < n {
-        return Searching::Refused(Refusal::new(Fault::PlanShort, 0));
-    }
-    if trail.len() < n {
-        return Searching::Refused(Refusal::new(Fault::TrailShort, 0));
-    }
-    fill::clear_bytes(plan, 0, n);
-    fill::clear_numbers(trail, 0, n);
-    let walk = walk_table(table, n, allowance, plan, trail);
-    let outcome = walk.outcome;
-    let count = walk.count;
-    Searching::Ended { outcome, count }
+    let tried = search_with(
+        table,
+        n,
+        allowance,
+        plan,
+        trail,
+        memo::MOST_SLOTS,
+        memo::SPREAD,
+    );
+    tried.answer
 }

@@ -8,7 +8,7 @@ use Rattle.literal.specs.Literal.{FALSE, literalAt, maxVariables, maxTable, cod
 use Rattle.theory.specs.State.{assign, standing, WellFormed}
 use Rattle.theory.proofs.ByCount.{ByCount}
 use Rattle.theory.proofs.DistinctBut.{DistinctBut}
-use Rattle.theory.proofs.PairsBut.{PairsBut}
+use Rattle.theory.proofs.Paired.{Paired}
 use Rattle.occurrences.specs.Index.{Indexed, clauseCount, clauseOf, formulaOf}
 use Rattle.tally.specs.Tally.{tallyOf, stateIn, valueIn}
 use Rattle.tally.specs.Ring.{Classes}
@@ -32,7 +32,7 @@ pub record Calm (ix st : List ℕ) : Type 0 where
   pub tallied : Tallied ix st
   pub counted : (g : ℕ) → g < clauseCount ix → ByCount (standing (stateIn st) (clauseOf ix g))
   pub distinct : DistinctBut (λ p. ⊥) (formulaOf ix) (stateIn st)
-  pub pairs : PairsBut (λ p. ⊥) (formulaOf ix) (stateIn st)
+  pub pairs : Paired (λ g h. ⊥) (formulaOf ix) (stateIn st)
 
 -- x is the code of a literal of an open root there
 pub record Siding (ix st wk : List ℕ) (x : ℕ) : Type 0 where

@@ -15,8 +15,7 @@ use Rattle.theory.proofs.States.{opens-bound, well-based, Refines, refi
 use Rattle.theory.proofs.Asks.{Dies, Rests, standing-no-false}
 use Rattle.theory.proofs.Propagation.{Stable, Ended, Ends, Steps, steps-well, steps-refine, steps-coarsest, any-order-rest, any-order-dead}
 use Rattle.theory.proofs.Pairs.{Live, NoPair, meets-as, meets-no-pair}
-use Rattle.theory.proofs.PairsBut.{PairsBut}
-use Rattle.theory.proofs.Paired.{Paired, paired-none}
+use Rattle.theory.proofs.Paired.{Paired}
 use Rattle.theory.proofs.ByCount.{ByCount, counted-closed, counted-quiet, live-counted}
 use Rattle.theory.proofs.Counts.{Wide}
 use Rattle.theory.proofs.Splits.{settle-ends}
@@ -51,15 +50,19 @@ rests-step {f} {s} r =
 
 -- what an engine has at its end ----------------------------------------------------------------------------------
 
--- each clause by its counts, and no variable whose pairs are to be looked at
-module _ {f : Formula} {s : State} (counted : (c : Clause) → List·Memᴰ c f → ByCount (standing s c)) (k : PairsBut (λ p. ⊥) f s) where
+-- each clause by its counts, and no pair that is to be looked at
+module _ {f : Formula} {s : State} (counted : (c : Clause) → List·Memᴰ c f → ByCount (standing s c)) (k : Paired (λ g h. ⊥) f s) where
   -- a live clause is wide
   live-wide : (c : Clause) → List·Memᴰ c f → Live (standing s c) → Wide (standing s c)
   live-wide c m = live-counted (counted-closed (standing s c) (standing-no-false s c) (counted c m)) .0
 
   pub pairs-settled : (g h : Clause) → Before g h f → NoPair (standing s g) (standing s h)
   pairs-settled g h b = meets-no-pair (standing s g) (standing s h) (standing-no-false s g)
-      (λ u v m. ⊎-elim (λ i. i) (λ i. i) (k .by g h b u v (meets-as (live-wide g (before-left b) (m .both .0), live-wide h (before-right b) (m .both .1)) m)))
+      (λ u v m. ⊎-elim (λ i. i) (λ i. i) (k .by g h b (record {
+        shared = u;
+        crossing = v;
+        meets = meets-as (live-wide g (before-left b) (m .both .0), live-wide h (before-right b) (m .both .1)) m;
+      })))
 
   pub counted-rests : Rests f s
   counted-rests = record {
@@ -74,12 +77,8 @@ module _ {n : ℕ} {f : Formula} (within : Within n f) {s u : State} (w : WellFo
   pub settled-rests : Rests f u → settle n f s ≡ rest u
   settled-rests k = any-order-rest within r w (suc n) (omega (arith, opens-bound s n)) (rests-step k)
 
-  pub settled-at : ((c : Clause) → List·Memᴰ c f → ByCount (standing u c)) → PairsBut (λ p. ⊥) f u → settle n f s ≡ rest u
+  pub settled-at : ((c : Clause) → List·Memᴰ c f → ByCount (standing u c)) → Paired (λ g h. ⊥) f u → settle n f s ≡ rest u
   settled-at k p = settled-rests (counted-rests k p)
-
-  -- the same by an empty relation of clauses
-  pub settled-paired : ((c : Clause) → List·Memᴰ c f → ByCount (standing u c)) → Paired (λ g h. ⊥) f u → settle n f s ≡ rest u
-  settled-paired k p = settled-at k (paired-none p)
 
   pub settled-dead : Dies f u → settle n f s ≡ dead
   settled-dead k = any-order-dead within r w (suc n) (omega (arith, opens-bound s n)) k

@@ -14,7 +14,6 @@ use Rattle.theory.proofs.Propagation.{Steps, none-left, one-more, asked
 use Rattle.theory.proofs.Stepped.{assign-turned}
 use Rattle.theory.proofs.Counts.{openCount, mentions, Wide}
 use Rattle.theory.proofs.Recounts.{opens-step, wide-before, mentions-kept, mentions-gone}
-use Rattle.theory.proofs.PairsBut.{PairsBut, pairs-decided}
 use Rattle.theory.proofs.Paired.{Adds, adds-none, adds-still, adds-decided}
 use Rattle.theory.proofs.DistinctBut.{DistinctBut, distinct-decided}
 
@@ -77,9 +76,6 @@ module _ {f : Formula} where
 
     pub falls-distinct : {P : ℕ → Type 0} → DistinctBut P f s → DistinctBut P f u
     falls-distinct {P} = falls-ind (λ s u. DistinctBut P f s → DistinctBut P f u) (λ s k. k) (λ s u x o h k. h (distinct-decided k x FALSE o refl)) r
-
-    pub falls-pairs : {L : ℕ → Type 0} → PairsBut L f s → PairsBut L f u
-    falls-pairs {L} = falls-ind (λ s u. PairsBut L f s → PairsBut L f u) (λ s k. k) (λ s u x o h k. h (pairs-decided x FALSE o refl k)) r
 
     -- and no two begin to meet
     pub falls-adds : Adds (λ g h. ⊥) f s u

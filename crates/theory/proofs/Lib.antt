@@ -11,7 +11,6 @@ pub mod DistinctBut
 pub mod Ties
 pub mod Asks
 pub mod Pairs
-pub mod PairsBut
 pub mod Paired
 pub mod Falls
 pub mod Looks

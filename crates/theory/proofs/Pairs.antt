@@ -89,9 +89,6 @@ module _ {B : Clause → Type 0} (bare : (c : Clause) → B c → occurs TRUE c 
   opened : (0 < var x) × (0 < var y)
   opened = meets-open bare (standing-no-false s g) m
 
-  pub asks-common : List·Memᴰ x (standing s h) → Asks f s x FALSE
-  asks-common k = asks-false s g h b (m .left) k (m .crossing) (m .crossed-by) (opened .0) (m .apart)
-
   pub asks-crossed : {z t : Literal} → List·Memᴰ (opposite x) (standing s h) → Ties x y z t → Asks f s z t
   asks-crossed k i = ⊎-elim
       (λ j. by-two g h j (crossed x y (m .left) k (m .crossing) (m .crossed-by) (opened .0) (opened .1) i))

@@ -13,7 +13,7 @@ use Rattle.tally.specs.Tally.{stateIn}
 use Rattle.notes.specs.Notes.{notesOf, Whole, Gathered}
 use Rattle.gather.specs.Gathering.{Beside}
 
--- so many literals of a clause are read faster than stamps are set
+-- a clause of so many literals is read faster than the clauses of a class are stamped
 abbrev pub short : ℕ
 short = 5
 

@@ -97,15 +97,15 @@ pub fn doubles_at(index: &Index, state: &mut Tally, work: &mut Notes, r: u16) ->
     undoubles(index, state, work, n, r)
 }
 
-// Where both classes stand ---------------------------------------------------------------------------------------------
+// Where both classes stand -------------------------------------------------------------------------------------------
 
-// So many literals of a clause are read faster than stamps are set.
+// A clause of so many literals is read faster than the clauses of a class are stamped.
 const SHORT: usize = 5;
 
-// 1 for a clause that is stamped, 0 for any other.
+// 1 at each clause that is stamped, 0 at any other.
 type Stamps = [u8; Literal::MAX_CLAUSES];
 
-// Whether clause g has more literals than that.
+// Whether clause g has more literals.
 fn is_long(index: &Index, g: usize) -> bool
     requires { ⌜ Indexed (now index) ⌝ }
     requires { ⌜ g < clauseCount (now index) ⌝ }
@@ -162,7 +162,7 @@ fn keep_stamped(work: &mut Notes, n: usize, stamps: &Stamps) -> usize
     end
 }
 
-// Of the first n gathered clauses those that hold the class of root r too, or all where they are short; says how many are left.
+// Keeps of the first n gathered clauses those that hold the class of root r too, or all where the first is short, and says how many.
 fn keep_both(index: &Index, state: &Tally, work: &mut Notes, n: usize, r: u16) -> usize
     requires { ⌜ AtRoot (now index) (now state) r ⌝ }
     requires { ⌜ Keeping (now work) (clauseCount (now index)) n ⌝ }
@@ -257,8 +257,8 @@ fn join(state: &mut Tally, x: u16, t: u16)
 }
 
 // Rules 6 and 8: exactly one of `low` and `high` is true, literals of open roots of which high's is the higher; it becomes the opposite of low.
-// Clauses that held the higher root are gathered before it goes over: there the lower one may stand twice now, and of the pairs that it makes meet each has
-// one of them and one that held the lower root. True is a dead end.
+// Clauses that held the higher root are gathered before it goes over: of the pairs that it makes meet each has one of them and one that held the lower root,
+// and in those that held both the lower one stands twice now. True is a dead end.
 pub fn tie(index: &Index, state: &mut Tally, work: &mut Notes, low: u16, high: u16) -> bool
     requires { ⌜ Tieable (now index) (now state) (now work) low high ⌝ }
     ensures { λ b. ⌜ TieOf (now (index .entry)) (now (state .entry)) (now (work .entry)) (now (state .exit)) (now (work .exit)) b ⌝ }

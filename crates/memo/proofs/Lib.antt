@@ -1,0 +1,4 @@
+pub mod Slots
+pub mod Keys
+pub mod Filling
+pub mod Learning
