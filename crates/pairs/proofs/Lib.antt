@@ -11,4 +11,7 @@ pub mod Looking
 pub mod Rows
 pub mod Variables
 pub mod Walking
+pub mod Seeing
+pub mod Touching
+pub mod Keeping
 pub mod Blocks

@@ -13,6 +13,7 @@ ghost use Rattle.moves.specs.Sound.{Sound};
 ghost use Rattle.moves.specs.Listing.{ListsIn, SpansIn};
 ghost use Rattle.pairs.specs.Meeting.{Readable, Marked, MetBy, Meetable, MetWide};
 ghost use Rattle.pairs.specs.Faces.{Comparing, FacedBy, Sharing, ClearOf};
+ghost use Rattle.pairs.specs.Seen.{Seen, SeenIn, Seeable, SeenBy, Seeing, Near, SeenAll, MayMeet, Kept, FacingAll};
 ghost use Rattle.pairs.specs.Looking.{Lookable, LookOf};
 ghost use Rattle.pairs.specs.Parts.{Facable, RowOf, VariableOf, Leads, StretchOf};
 use gather::Sign;
@@ -244,35 +245,131 @@ fn meet_stretch(
     }
 }
 
+// Which clauses face ---------------------------------------------------------------------------------------------------
+
+// 1 for a literal that stands in some wide clause of the near side of a block, by code.
+type Seen = [u8; Literal::CODES];
+
+// Sees the literals of clause g.
+fn see_clause(index: &Index, state: &Tally, seen: &mut Seen, g: usize)
+    requires { ⌜ Seeable (now index) (now state) g ⌝ }
+    requires { ⌜ Seen (now seen) ⌝ }
+    ensures { λ _. ⌜ SeenBy (now (index .entry)) (now (state .entry)) (now (seen .entry)) g (now (seen .exit)) ⌝ }
+{
+    let start = occurrences::start_of(index, g);
+    let end = occurrences::end_of(index, g);
+    for i in start..end {
+        let v = tally::value_at(index, state, i);
+        seen[v as usize] = 1;
+    }
+}
+
+// The literals of the first n gathered clauses. The constants count for nothing.
+fn see_gathered(index: &Index, state: &Tally, work: &Notes, n: usize) -> Seen
+    requires { ⌜ Seeing (now index) (now state) (now work) n ⌝ }
+    ensures { λ r. ⌜ SeenAll (now (index .entry)) (now (state .entry)) (now (work .entry)) n r ⌝ }
+{
+    let mut seen = [0u8; Literal::CODES];
+    for i in 0..n {
+        let g = notes::gathered_at(work, i) as usize;
+        see_clause(index, state, &mut seen, g);
+    }
+    seen[0] = 0;
+    seen[1] = 0;
+    seen
+}
+
+// 0 where clause h meets none whose literals are seen: it has no literal whose opposite is seen, or no second one that is seen or has its opposite seen.
+fn may_meet(index: &Index, state: &Tally, seen: &Seen, h: usize) -> usize
+    requires { ⌜ Seeable (now index) (now state) h ⌝ }
+    requires { ⌜ Seen (now seen) ⌝ }
+    ensures { λ r. ⌜ MayMeet (now (index .entry)) (now (state .entry)) (now (seen .entry)) h r ⌝ }
+{
+    let mut crossed: usize = 0;
+    let mut shared: usize = 0;
+    let start = occurrences::start_of(index, h);
+    let end = occurrences::end_of(index, h);
+    for i in start..end {
+        let v = tally::value_at(index, state, i);
+        let like = seen[v as usize] as usize;
+        let across = seen[tally::opposite(v) as usize] as usize;
+        crossed += across;
+        shared += (like + across + 1) / 2;
+    }
+    if crossed == 0 {
+        return 0;
+    }
+    if shared < 2 {
+        return 0;
+    }
+    1
+}
+
+// Brings those of the n clauses that face which may meet one whose literals are seen to the front, and says how many there are. Any other is overwritten.
+fn keep_seen(index: &Index, state: &Tally, work: &mut Notes, seen: &Seen, n: usize) -> usize
+    requires { ⌜ Facable (now index) (now state) (now work) n ⌝ }
+    requires { ⌜ Seen (now seen) ⌝ }
+    ensures { λ m. ⌜ Kept (SeenIn (now (state .entry)) (now (seen .entry))) (now (index .entry)) (now (state .entry)) (now (work .entry)) n (now (work .exit)) m ⌝ }
+{
+    let mut end = 0;
+    for i in 0..n {
+        let h = notes::gathered_at(work, notes::FACING + i);
+        notes::put_gathered(work, notes::FACING + end, h);
+        end += may_meet(index, state, seen, h as usize);
+    }
+    end
+}
+
+// The same for those that may meet one of the first `near` gathered clauses. Against one alone the look itself takes no longer.
+fn keep_meeting(index: &Index, state: &Tally, work: &mut Notes, near: usize, n: usize) -> usize
+    requires { ⌜ Facable (now index) (now state) (now work) n ⌝ }
+    requires { ⌜ Seeing (now index) (now state) (now work) near ⌝ }
+    ensures { λ m. ⌜ Kept (Near (now (index .entry)) (now (work .entry)) near) (now (index .entry)) (now (state .entry)) (now (work .entry)) n (now (work .exit)) m ⌝ }
+{
+    if near < 2 {
+        return n;
+    }
+    if n == 0 {
+        return 0;
+    }
+    let seen = see_gathered(index, state, work, near);
+    keep_seen(index, state, work, &seen, n)
+}
+
+// Gathers the clauses of the far side of a block that may meet one of the near side, so that they face, and says how many there are.
+fn face(index: &Index, state: &Tally, work: &mut Notes, block: Block) -> usize
+    requires { ⌜ Lookable (now index) (now state) (now work) ⌝ }
+    requires { ⌜ SpansIn (now state) block ⌝ }
+    ensures { λ n. ⌜ FacingAll (ListsIn (now (state .entry)) block) (now (index .entry)) (now (state .entry)) (now (work .entry)) (now (work .exit)) n ⌝ }
+{
+    let p = block.first as usize;
+    let last = block.last;
+    if last == 0 {
+        let near = gather::gather_variable(index, state, work, p, 0, Sign::Positive);
+        let end = gather::gather_variable(index, state, work, p, notes::FACING, Sign::Negative);
+        return keep_meeting(index, state, work, near, end - notes::FACING);
+    }
+    let near = gather::gather_stretch(index, state, work, block.first, last, 0);
+    let end = gather::gather_stretch(index, state, work, block.from, block.to, notes::FACING);
+    keep_meeting(index, state, work, near, end - notes::FACING)
+}
+
+// The look -------------------------------------------------------------------------------------------------------------
+
 // Rules 7 and 8 for the pairs of a block, which is no longer listed. True is a dead end.
 pub fn look(index: &Index, state: &mut Tally, work: &mut Notes, block: Block) -> bool
     requires { ⌜ Lookable (now index) (now state) (now work) ⌝ }
     requires { ⌜ SpansIn (now state) block ⌝ }
     ensures { λ r. ⌜ LookOf (ListsIn (now (state .entry)) block) (now (index .entry)) (now (state .entry)) (now (work .entry)) (now (state .exit)) (now (work .exit)) r ⌝ }
 {
+    let n = face(index, state, work, block);
+    if n == 0 {
+        return false;
+    }
     let first = block.first;
     let last = block.last;
     if last == 0 {
-        let end = gather::gather_variable(
-            index,
-            state,
-            work,
-            first as usize,
-            notes::FACING,
-            Sign::Negative,
-        );
-        return meet_variable(
-            index,
-            state,
-            work,
-            first as usize,
-            end - notes::FACING,
-            Sign::Positive,
-        );
+        return meet_variable(index, state, work, first as usize, n, Sign::Positive);
     }
-    let end = gather::gather_stretch(index, state, work, block.from, block.to, notes::FACING);
-    if end == notes::FACING {
-        return false;
-    }
-    meet_stretch(index, state, work, first, last, end - notes::FACING)
+    meet_stretch(index, state, work, first, last, n)
 }
