@@ -245,7 +245,7 @@ fn meet_stretch(
     }
 }
 
-// Which clauses face ---------------------------------------------------------------------------------------------------
+// Which clauses face -------------------------------------------------------------------------------------------------
 
 // 1 for a literal that stands in some wide clause of the near side of a block, by code.
 type Seen = [u8; Literal::CODES];
@@ -354,7 +354,7 @@ fn face(index: &Index, state: &Tally, work: &mut Notes, block: Block) -> usize
     keep_meeting(index, state, work, near, end - notes::FACING)
 }
 
-// The look -------------------------------------------------------------------------------------------------------------
+// The look -----------------------------------------------------------------------------------------------------------
 
 // Rules 7 and 8 for the pairs of a block, which is no longer listed. True is a dead end.
 pub fn look(index: &Index, state: &mut Tally, work: &mut Notes, block: Block) -> bool
