@@ -81,6 +81,17 @@ fn units(index: &Index, state: &mut Tally, work: &mut Notes, from: usize) -> boo
     false
 }
 
+// The same where any clause was noted since: most looks note none, and a test costs less than a call.
+fn new_units(index: &Index, state: &mut Tally, work: &mut Notes, from: usize) -> bool
+    requires { ⌜ Unitable (now index) (now state) (now work) from ⌝ }
+    ensures { λ r. ⌜ UnitsOf (now (index .entry)) (now (state .entry)) (now (work .entry)) (now (state .exit)) (now (work .exit)) r ⌝ }
+{
+    if notes::todo_end(work) <= from {
+        return false;
+    }
+    units(index, state, work, from)
+}
+
 // Rule 6 in clause g, which has two open literals and none true. Twice the same is a dead end by rules 4 and 1.
 fn two_open(index: &Index, state: &Tally, g: usize) -> Found
     requires { ⌜ Opens (now index) (now state) g (startAt (now index) g) ⌝ }
@@ -193,7 +204,7 @@ pub fn propagate(index: &Index, state: &mut Tally, work: &mut Notes) -> bool
         let Next::From(on) = next else {
             return true;
         };
-        if units(index, state, work, at) {
+        if new_units(index, state, work, at) {
             return true;
         }
         twos = on;

@@ -36,8 +36,8 @@ returns-2 c =
     let u = rw (l .before .if1 .left) at (l .before .before .units .ensures) in
     (died-fallen (u .0) (going-dead (l .loop .inv) (e .0)), e .1)
 
-units-requires-2 : tie.Need-units-requires-2 Inv-loop μ-loop
-units-requires-2 c κs =
+new-units-requires : tie.Need-new-units-requires Inv-loop μ-loop
+new-units-requires c κs =
     let k = c .before .before .before in
     let e = k .before .before .before .before .before in
     rw (e .todo-end .ensures) (unitable (turned k .ready) (turned k .grows))
@@ -46,7 +46,7 @@ returns-3 : tie.Need-returns-3 Inv-loop μ-loop
 returns-3 c =
     let k = c .before .before .before .before .before in
     let l = k .before .before .before .before .before .before .before .before .before .before in
-    let e = rw (c .if3 .taken) at (c .before .units2 .ensures) in
+    let e = rw (c .if3 .taken) at (c .before .new-units .ensures) in
     let u = rw (l .before .if1 .left) at (l .before .before .units .ensures) in
     (died-fallen (u .0) (turned-dead (l .loop .inv) (turned k) (e .0)), e .1)
 
@@ -54,13 +54,13 @@ loop-less : tie.Need-loop-less Inv-loop μ-loop
 loop-less c =
     let k = c .before .before .before .before .before in
     let l = k .before .before .before .before .before .before .before .before .before .before in
-    going-less (l .loop .inv) (turned k) (rw (c .if3 .left) at (c .before .units2 .ensures))
+    going-less (l .loop .inv) (turned k) (rw (c .if3 .left) at (c .before .new-units .ensures))
 
 loop-again : tie.Need-loop-again Inv-loop μ-loop
 loop-again c =
     let k = c .before .before .before .before .before in
     let l = k .before .before .before .before .before .before .before .before .before .before in
-    going-goes (l .loop .inv) (turned k) (rw (c .if3 .left) at (c .before .units2 .ensures))
+    going-goes (l .loop .inv) (turned k) (rw (c .if3 .left) at (c .before .new-units .ensures))
 
 returns-4 : tie.Need-returns-4 Inv-loop μ-loop
 returns-4 c =
@@ -84,7 +84,7 @@ propagate-spec =
     (λ c. search needs)
     (λ c. search needs)
     returns-2
-    units-requires-2
+    new-units-requires
     returns-3
     loop-less
     loop-again
