@@ -130,6 +130,10 @@ def rate(splits, seconds):
     return "{:,.0f}".format(thousands) if thousands >= 10 else "%.2g" % thousands
 
 
+def ratio(x):
+    return "{:,.0f}".format(x) if x >= 100 else "%.2g" % x
+
+
 def shown(seconds, limit):
     return ">%g" % limit if seconds is None else "%.3f" % seconds
 
@@ -179,11 +183,11 @@ def table_cells(row, options):
     cells = filing_cells(row) + [OUTCOMES[row["number"]], "{:,}".format(row["count"])]
     cells += ["{:,}".format(row["walked"]) if row["walked"] or not row["count"] else "-"]
     cells += [rate(row["splits"], row["library"]) + ("*" if is_cut(row, options) else "")]
-    cells += [rate(row["splits"], row["independent"]), "%.2g" % (row["independent"] / row["library"])]
+    cells += [rate(row["splits"], row["independent"]), ratio(row["independent"] / row["library"])]
     cells += [shown(whole[name], options.limit) for name in SERIES if name != "independent"] + [row["ahead"]]
     if options.reference:
         cells += [rate(row["splits"], row["reference"])]
-        cells += ["%.2g" % (row["reference"] / row[name]) for name in ("library", "independent")]
+        cells += [ratio(row["reference"] / row[name]) for name in ("library", "independent")]
     return cells
 
 
@@ -270,7 +274,7 @@ def longest_cells(row):
         library, independent = (1e6 * seconds for seconds in row[name])
         if row["count"] or name == "start":
             cells += ["%.1f" % library, "%.1f" % independent]
-            cells += ["%.2g" % (independent / library) if independent > 0 and library > 1 else "-"]
+            cells += [ratio(independent / library) if independent > 0 and library > 1 else "-"]
         else:
             cells += ["-"] * 3
     return cells + (["%.1f" % (1e6 * seconds / row["count"]) for seconds in row["call"]] if row["count"] else ["-"] * 2)

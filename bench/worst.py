@@ -118,17 +118,26 @@ def slowest(row):
     return max(p[0] for p in pairs), max(((p[0] / max(p[1], 1e-6), p[0]) for p in pairs))
 
 
+def middle(row, program):
+    """A split's time is the difference of two calls', so one measurement may be off: of five the middle one by ratio."""
+    rows = [row] + [list(table.longest_rows([row["strip"]], program))[0] for _ in range(4)]
+    return sorted(rows, key=lambda r: slowest(r)[1])[2]
+
+
 class Best:
     """The slowest tables of one family, by time and by ratio."""
 
     def __init__(self):
         self.time, self.ratio = (0, None, None), (0, None, None)
 
-    def take(self, row, numbers, least):
+    def take(self, row, numbers, options):
         longest, (times, seconds) = slowest(row)
+        if longest > self.time[0] or seconds > options.least * 1e-6 and times > self.ratio[0]:
+            row = middle(row, options.program)
+            longest, (times, seconds) = slowest(row)
         if longest > self.time[0]:
             self.time = (longest, numbers, row)
-        if seconds > least and times > self.ratio[0]:
+        if seconds > options.least * 1e-6 and times > self.ratio[0]:
             self.ratio = (times, numbers, row)
 
     def numbers(self, r):
@@ -148,7 +157,7 @@ def look(options):
                 out.write(filings.strip(*found[1]))
             batch.append((family, found[0], path))
         for (family, numbers, _), row in zip(batch, table.longest_rows([b[2] for b in batch], options.program)):
-            best[family].take(row, numbers, options.least * 1e-6)
+            best[family].take(row, numbers, options)
             tried += 1
         keep = {b[2]["strip"] for found in best.values() for b in (found.time, found.ratio) if b[2]}
         for _, _, path in batch:
