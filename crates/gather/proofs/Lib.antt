@@ -5,3 +5,4 @@ pub mod Waits
 pub mod Collects
 pub mod Gathers
 pub mod Besides
+pub mod Keeping

@@ -100,6 +100,15 @@ pub record GatheredAlong (ix st wk : List ℕ) (first last start : ℕ) (wk′ :
   pub all : (l : List ℕ) → Stretch (tallyOf st .links) (tallyOf st .values) first last l → (g : ℕ) → WideIn ix st g → Reaches (last ∷ l) (clauseOf ix g) →
       Gathered (notesOf wk′) start end g
 
+-- of the clauses from place `start` to `stop` all of a kind are before `end` now, and none that was not among them; those from `stop` on stay
+pub record KeptFrom (Of : ℕ → Type 0) (wk : List ℕ) (start stop : ℕ) (wk′ : List ℕ) (end : ℕ) : Type 0 where
+  pub grew : start ≤ end
+  pub fewer : end ≤ stop
+  pub beside : Beside wk wk′
+  pub beyond : (i : ℕ) → stop ≤ i → getD (notesOf wk′ .gathered) i 0 ≡ getD (notesOf wk .gathered) i 0
+  pub only : (i : ℕ) → start ≤ i → i < end → Gathered (notesOf wk) start stop (getD (notesOf wk′ .gathered) i 0)
+  pub all : (g : ℕ) → Of g → Gathered (notesOf wk) start stop g → Gathered (notesOf wk′) start end g
+
 -- some wide clause holds variable p
 abbrev pub Stands : (ix st : List ℕ) → ℕ → Bool → Type 0
 Stands ix st p true = (g : ℕ) × WideIn ix st g × Written ix p g

@@ -10,3 +10,4 @@ pub mod Options
 pub mod Runs
 pub mod Appending
 pub mod Sums
+pub mod Flags

@@ -65,25 +65,29 @@ module _ {ix st wk : List ℕ} (l : Lookable ix st wk) where
         let i = formula-mem ix m in
         (i .0, sides .all-near (i .0) (wide-in (l .sound .index) (i .0) (i .1) st (l .sound .exact) (rw (i .2) at w)) (rw (i .2) at k), i .2)
 
-    faced-far : (h : Clause) → List·Memᴰ h (formulaOf ix) → Wide (standing (stateIn st) h) → Q h → (j : ℕ) × (j < end - maxLiterals) × (h ≡ facing ix wk₁ j)
-    faced-far h m w k =
+    far : (h : Clause) → List·Memᴰ h (formulaOf ix) → Wide (standing (stateIn st) h) → Q h →
+        (g : ℕ) × Gathered (notesOf wk₁) maxLiterals (maxLiterals + (end - maxLiterals)) g × (h ≡ clauseOf ix g)
+    far h m w k =
         let g = formula-mem ix m in
         let i = sides .all-far (g .0) (wide-in (l .sound .index) (g .0) (g .1) st (l .sound .exact) (rw (g .2) at w)) (rw (g .2) at k) in
-        let e : maxLiterals + (i .0 - maxLiterals) ≡ i .0 = omega (arith, i .1) in
-        (i .0 - maxLiterals, omega (arith, i .1, i .2), g .2 ∙ ap (clauseOf ix) (sym (rw e (i .3))))
+        (g .0, (i .0, i .1, omega (arith, i .1, i .2), i .3), g .2)
 
     -- what does not face meets nothing
     pub sides-kept : (K : Relation) → ((g h : Clause) → K g h → P g × Q h) → {wk₂ : List ℕ} {m : ℕ} → Kept (Near ix wk₁ n) ix st wk₁ (end - maxLiterals) wk₂ m →
         FacingAll K ix st wk wk₂ m
     sides-kept K parts k = record {
       beside = beside-trans (sides .beside) (k .beside);
-      faces = k .faces;
+      faces = record {
+        few = omega (arith, k .fewer, sides .few-far);
+        inside = λ i h. let w = k .only (maxLiterals + i) (omega arith) (omega arith) in rw (← w .3) (sides .inside-far (w .0) (w .1) (omega (arith, w .1, w .2)));
+      };
       all = λ g h p q r m.
           let z = parts g h r in
           let w = m .meets .both in
-          let j = faced-far h q (w .1) (z .1) in
-          let i = k .all g (near g p (w .0) (z .0)) (j .0) (j .1) (rw (j .2) at m) in
-          (i .0, i .1, j .2 ∙ ap (clauseOf ix) (sym (i .2)));
+          let f = far h q (w .1) (z .1) in
+          let i = k .all (f .0) (g, near g p (w .0) (z .0), rw (f .2) at m) (f .1) in
+          let e : maxLiterals + (i .0 - maxLiterals) ≡ i .0 = omega (arith, i .1) in
+          (i .0 - maxLiterals, omega (arith, i .1, i .2), f .2 ∙ ap (clauseOf ix) (sym (rw e (i .3))));
     }
 
   module _ (block : Block) (spans : SpansIn st block) where

@@ -13,5 +13,4 @@ pub mod Variables
 pub mod Walking
 pub mod Seeing
 pub mod Touching
-pub mod Keeping
 pub mod Blocks

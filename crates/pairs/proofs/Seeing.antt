@@ -4,9 +4,10 @@ use mathlib.Core.List.{List, List·Memᴰ}
 use Prim.Native.Nat.{ℕ, _+_, _-_, _≤_, _<_}
 use native.Mathlib.Decide.{ℕ-discrete as decEq}
 use native.Mathlib.Omega.{arith}
-use lib.ListN.{getD, set, length-set, replicate, length-replicate}
-use lib.Seq.{getD-set-same, getD-set-other}
-use Rattle.general.specs.Lists.{getD-throughout, from-mem}
+use lib.ListN.{getD, set, replicate}
+use lib.Seq.{getD-set-other}
+use Rattle.general.specs.Lists.{from-mem}
+use Rattle.general.specs.Flags.{flags-none, flag-there, flags-set, flag-kept}
 use Rattle.literal.specs.declared.Literal.{Literal}
 use Rattle.literal.specs.Literal.{codeOf, literalAt, codes}
 use Rattle.theory.specs.State.{value, standing}
@@ -31,20 +32,6 @@ standing-placed {ix} st index g h y m =
     let j = from-mem (λ i. literalAt (codeAt ix i)) (startAt ix g) _ (w .written) (w .member) in
     (j .0, j .1, omega (arith, j .2, index .starts g h), ap (λ (l : Literal). codeOf (value (stateIn st) l)) (sym (j .3)) ∙ ap codeOf (w .valued))
 
--- one code is written
-module _ {seen : List ℕ} (s : Seen seen) (x : ℕ) (inside : x < codes) where
-  there : (b : ℕ) → getD (set seen x b) x 0 ≡ b
-  there b = getD-set-same seen x b 0 (omega (arith, s .long))
-
-  seen-set : (b : ℕ) → b ≤ 1 → Seen (set seen x b)
-  seen-set b low = record {
-    long = length-set seen x b ∙ s .long;
-    bits = λ y. elim (decEq y x) [ yes e ↦ rw e (omega (arith, there b)) | no e ↦ rw (getD-set-other seen x y b 0 e) (s .bits y) ];
-  }
-
-  still : (y : ℕ) → IsSeen seen y → IsSeen (set seen x 1) y
-  still y h = elim (decEq y x) [ yes e ↦ rw e (there 1) | no e ↦ rw (getD-set-other seen x y 1 0 e) h ]
-
 -- a clause: the literals before place i are seen
 pub record Sees (ix st seen : List ℕ) (g start end : ℕ) (seen′ : List ℕ) (i : ℕ) : Type 0 where
   pub seeable : Seeable ix st g
@@ -65,11 +52,11 @@ module _ {ix st seen : List ℕ} {g start end : ℕ} {seen′ : List ℕ} {i : �
     sees-go = record {
       seeable = o .seeable;
       reads = reads-go (o .reads) more;
-      whole = seen-set (o .whole) x sees-low 1 (omega arith);
-      kept = λ y h. still (o .whole) x sees-low y (o .kept y h);
+      whole = flags-set (o .whole) x sees-low 1 (omega arith);
+      kept = λ y h. flag-kept (o .whole) x sees-low y (o .kept y h);
       done = λ j a b. elim (decEq j i) [
-        | yes e ↦ rw (e, ← is) (there (o .whole) x sees-low 1)
-        | no e ↦ still (o .whole) x sees-low (valueAt ix st j) (o .done j a (omega arith))
+        | yes e ↦ rw (e, ← is) (flag-there (o .whole) x sees-low 1)
+        | no e ↦ flag-kept (o .whole) x sees-low (valueAt ix st j) (o .done j a (omega arith))
       ];
     }
 
@@ -89,11 +76,7 @@ pub record SeesAll (ix st wk : List ℕ) (n : ℕ) (seen : List ℕ) (i : ℕ) :
   pub done : (j : ℕ) → j < i → SeenIn st seen (clauseOf ix (getD (notesOf wk .gathered) j 0))
 
 pub sees-all-begin : {ix st wk : List ℕ} {n : ℕ} → Seeing ix st wk n → SeesAll ix st wk n (replicate codes 0) 0
-sees-all-begin k = record {
-  seeing = k;
-  whole = record { long = length-replicate {A = ℕ} codes 0; bits = λ x. omega (arith, getD-throughout {A = ℕ} codes x 0) };
-  done = λ j h. absurd (omega arith);
-}
+sees-all-begin k = record { seeing = k; whole = flags-none codes; done = λ j h. absurd (omega arith) }
 
 module _ {ix st wk : List ℕ} {n : ℕ} {seen : List ℕ} {i : ℕ} (o : SeesAll ix st wk n seen i) where
   module _ (more : i < n) (g : ℕ) (is : g ≡ getD (notesOf wk .gathered) i 0) where
@@ -113,7 +96,7 @@ module _ {ix st wk : List ℕ} {n : ℕ} {seen : List ℕ} {i : ℕ} (o : SeesAl
   -- the constants are not literals of a wide clause
   pub sees-all-end : n ≤ i → SeenAll ix st wk n (set (set seen 0 0) 1 0)
   sees-all-end h = record {
-    whole = seen-set (seen-set (o .whole) 0 (omega arith) 0 (omega arith)) 1 (omega arith) 0 (omega arith);
+    whole = flags-set (flags-set (o .whole) 0 (omega arith) 0 (omega arith)) 1 (omega arith) 0 (omega arith);
     all = λ c (g, (j, a, b, e), q) w y m.
         let high = code-high y (wide-open (standing-no-false (stateIn st) c) w y m) in
         rw (getD-set-other (set seen 0 0) 1 (codeOf y) 0 0 (λ z. omega arith), getD-set-other seen 0 (codeOf y) 0 0 (λ z. omega arith))

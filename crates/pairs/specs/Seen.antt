@@ -1,8 +1,9 @@
 -- The literals of the near side of a block, by code, and the clauses of its far side that may meet a clause of these.
 use mathlib.Core.Path.{_≡_}
 use mathlib.Core.List.{List, List·Memᴰ}
-use Prim.Native.Nat.{ℕ, _≤_, _<_}
-use lib.ListN.{getD, length}
+use Prim.Native.Nat.{ℕ, _+_, _≤_, _<_}
+use lib.ListN.{getD}
+use Rattle.general.specs.Flags.{Flags}
 use Rattle.literal.specs.declared.Literal.{Literal}
 use Rattle.literal.specs.Literal.{codeOf, codes, maxLiterals}
 use Rattle.theory.specs.Formula.{Clause}
@@ -13,13 +14,12 @@ use Rattle.occurrences.specs.Index.{Indexed, clauseCount, clauseOf, formulaOf}
 use Rattle.tally.specs.Tally.{tallyOf, stateIn}
 use Rattle.tally.specs.Ring.{Classes}
 use Rattle.notes.specs.Notes.{notesOf, Gathered}
-use Rattle.gather.specs.Gathering.{Beside}
-use Rattle.pairs.specs.Faces.{facingAt, facing, Faces}
+use Rattle.gather.specs.Gathering.{Beside, KeptFrom}
+use Rattle.pairs.specs.Faces.{facing, Faces}
 
 -- 1 for a literal that is seen, 0 for any other
-pub record Seen (seen : List ℕ) : Type 0 where
-  pub long : length seen ≡ codes
-  pub bits : (x : ℕ) → getD seen x 0 ≤ 1
+abbrev pub Seen : List ℕ → Type 0
+Seen = Flags codes
 
 -- the literal with code x is seen
 abbrev pub IsSeen : List ℕ → ℕ → Type 0
@@ -62,11 +62,13 @@ pub record MayMeet (ix st seen : List ℕ) (h r : ℕ) : Type 0 where
   pub low : r ≤ 1
   pub apart : r ≡ 0 → (g : Clause) → SeenIn st seen g → ¬ Meet (stateIn st) g (clauseOf ix h)
 
--- of the n clauses that faced m face now, among them every one that meets a clause of a kind
-pub record Kept (Of : Clause → Type 0) (ix st wk : List ℕ) (n : ℕ) (wk′ : List ℕ) (m : ℕ) : Type 0 where
-  pub beside : Beside wk wk′
-  pub faces : Faces ix wk′ m
-  pub all : (g : Clause) → Of g → (i : ℕ) → i < n → Meet (stateIn st) g (facing ix wk i) → (j : ℕ) × (j < m) × (facingAt wk′ j ≡ facingAt wk i)
+-- clause h meets one of a kind
+abbrev pub MeetsOf : (Clause → Type 0) → (ix st : List ℕ) → ℕ → Type 0
+MeetsOf Of ix st h = (g : Clause) × Of g × Meet (stateIn st) g (clauseOf ix h)
+
+-- of the n clauses that faced m face now, among them every one that does
+abbrev pub Kept : (Clause → Type 0) → (ix st wk : List ℕ) → ℕ → List ℕ → ℕ → Type 0
+Kept Of ix st wk n wk′ m = KeptFrom (MeetsOf Of ix st) wk maxLiterals (maxLiterals + n) wk′ (maxLiterals + m)
 
 -- n clauses face, among them each that meets one with which K pairs it
 pub record FacingAll (K : Relation) (ix st wk wk′ : List ℕ) (n : ℕ) : Type 0 where

@@ -5,5 +5,4 @@ pub mod Joins
 pub mod Between
 pub mod Listings
 pub mod Stamping
-pub mod Keeps
 pub mod Tyings

@@ -5,8 +5,8 @@ use mathlib.Core.List.{List, _∷_}
 use Prim.Native.Nat.{ℕ, _+_, _/_, _≤_, _<_}
 use native.Mathlib.Decide.{ℕ-discrete as decEq}
 use native.Mathlib.Omega.{arith}
-use lib.ListN.{set, length-set, replicate, length-replicate, getD-replicate}
-use lib.Seq.{getD-set-same, getD-set-other}
+use lib.ListN.{set, replicate}
+use Rattle.general.specs.Flags.{flags-none, flag-there, flags-set, flag-kept}
 use Rattle.literal.specs.Literal.{maxVariables, maxClauses, maxLiterals}
 use Rattle.theory.proofs.Counts.{Holds}
 use Rattle.occurrences.specs.Index.{Indexed, clauseOf, firstAt, occurrenceAt}
@@ -17,20 +17,6 @@ use Rattle.gather.proofs.Placed.{holds-placed}
 use Rattle.gather.proofs.Along.{Along, along-begins, along-goes, along-ends}
 use Rattle.gather.proofs.Gathers.{ring, root-stretch, mentioned}
 use Rattle.tie.specs.Keeping.{Stamps, Stamped, StampedBy, StampedAll}
-
--- one stamp more
-module _ {stamps : List ℕ} (s : Stamps stamps) (h : ℕ) (inside : h < maxClauses) where
-  there : Stamped (set stamps h 1) h
-  there = getD-set-same stamps h 1 0 (omega (arith, s .long))
-
-  kept : (g : ℕ) → Stamped stamps g → Stamped (set stamps h 1) g
-  kept g d = elim (decEq g h) [ yes e ↦ rw e there | no e ↦ rw (getD-set-other stamps h g 1 0 e) d ]
-
-  stamps-set : Stamps (set stamps h 1)
-  stamps-set = record {
-    long = rw (length-set stamps h 1) (s .long);
-    bits = λ g b. elim (decEq g h) [ yes e ↦ rw e (omega (arith, there)) | no e ↦ rw (getD-set-other stamps h g 1 0 e) (s .bits g b) ];
-  }
 
 -- a variable: the occurrences before j are stamped
 pub record Stamping (ix stamps : List ℕ) (p first last : ℕ) (stamps′ : List ℕ) (j : ℕ) : Type 0 where
@@ -61,11 +47,11 @@ module _ {ix stamps : List ℕ} {p first last : ℕ} {stamps′ : List ℕ} {j :
         inside = o .inside;
         begins = o .begins;
         ends = o .ends;
-        whole = stamps-set (o .whole) (x / 2) stamping-clause;
-        kept = λ g d. kept (o .whole) (x / 2) stamping-clause g (o .kept g d);
+        whole = flags-set (o .whole) (x / 2) stamping-clause 1 (omega arith);
+        kept = λ g d. flag-kept (o .whole) (x / 2) stamping-clause g (o .kept g d);
         done = λ i a b. elim (decEq i j) [
-          | yes e ↦ rw (e, ← is) (there (o .whole) (x / 2) stamping-clause)
-          | no e ↦ kept (o .whole) (x / 2) stamping-clause (occurrenceAt ix i / 2) (o .done i a (omega arith))
+          | yes e ↦ rw (e, ← is) (flag-there (o .whole) (x / 2) stamping-clause 1)
+          | no e ↦ flag-kept (o .whole) (x / 2) stamping-clause (occurrenceAt ix i / 2) (o .done i a (omega arith))
         ];
       }
 
@@ -86,7 +72,7 @@ pub stamps-begin : {ix st : List ℕ} {r : ℕ} → AtRoot ix st r → (p : ℕ)
 stamps-begin a p e = record {
   at-root = a;
   along = along-begins (rw e (root-stretch a));
-  whole = record { long = length-replicate {A = ℕ} maxClauses 0; bits = λ g h. rw (getD-replicate {A = ℕ} maxClauses g 0 0 h) (omega arith) };
+  whole = flags-none maxClauses;
 }
 
 module _ {ix st : List ℕ} {r : ℕ} {stamps : List ℕ} {p : ℕ} (o : StampsAlong ix st r stamps p) {stamps′ : List ℕ} (s : StampedBy ix stamps p stamps′) where

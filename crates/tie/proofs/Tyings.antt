@@ -148,7 +148,7 @@ module _ {ix st wk : List ℕ} {low high : ℕ} (d : Tieable ix st wk low high) 
           tying-all = record {
             sound = sound;
             few = omega (arith, k .few, b .fewer);
-            clauses = λ i h. let w = b .only i h in rw (p .gathered, ← w .3) (k .inside (w .0) (w .2));
+            clauses = λ i h. let w = b .only i (omega arith) h in rw (p .gathered, ← w .3) (k .inside (w .0) (w .2));
             positive = omega (arith, d .tying .opened);
             inside = omega (arith, d .tying .order, d .tying .below);
           }

@@ -4,14 +4,15 @@ use mathlib.Core.Bool.{Bool}
 use mathlib.Core.List.{List}
 use Prim.Native.Nat.{ℕ, _+_, _-_, _≤_, _<_}
 use lib.Dec.{ltb}
-use lib.ListN.{getD, length}
+use lib.ListN.{getD}
+use Rattle.general.specs.Flags.{Flags}
 use Rattle.literal.specs.Literal.{maxClauses, maxLiterals}
 use Rattle.theory.specs.State.{standing}
 use Rattle.theory.proofs.Counts.{mentions, Wide, Holds}
 use Rattle.occurrences.specs.Index.{clauseCount, clauseOf, startAt}
 use Rattle.tally.specs.Tally.{stateIn}
-use Rattle.notes.specs.Notes.{notesOf, Whole, Gathered}
-use Rattle.gather.specs.Gathering.{Beside}
+use Rattle.notes.specs.Notes.{notesOf, Whole}
+use Rattle.gather.specs.Gathering.{KeptFrom}
 
 -- a clause of so many literals is read faster than the clauses of a class are stamped
 abbrev pub short : ℕ
@@ -22,9 +23,8 @@ abbrev pub isLong : List ℕ → ℕ → Bool
 isLong ix g = ltb short (startAt ix (g + 1) - 1 - startAt ix g)
 
 -- a stamp is 1, and none is 0
-pub record Stamps (stamps : List ℕ) : Type 0 where
-  pub long : length stamps ≡ maxClauses
-  pub bits : (g : ℕ) → g < maxClauses → getD stamps g 0 ≤ 1
+abbrev pub Stamps : List ℕ → Type 0
+Stamps = Flags maxClauses
 
 abbrev pub Stamped : List ℕ → ℕ → Type 0
 Stamped stamps g = getD stamps g 0 ≡ 1
@@ -51,9 +51,5 @@ pub record Keeping (wk : List ℕ) (clauses n : ℕ) : Type 0 where
   pub inside : (i : ℕ) → i < n → getD (notesOf wk .gathered) i 0 < clauses
 
 -- the first m of them now: all of a kind, and none that were not gathered; those from place n on stay
-pub record Kept (Of : ℕ → Type 0) (wk : List ℕ) (n : ℕ) (wk′ : List ℕ) (m : ℕ) : Type 0 where
-  pub fewer : m ≤ n
-  pub beside : Beside wk wk′
-  pub beyond : (i : ℕ) → n ≤ i → getD (notesOf wk′ .gathered) i 0 ≡ getD (notesOf wk .gathered) i 0
-  pub only : (i : ℕ) → i < m → Gathered (notesOf wk) 0 n (getD (notesOf wk′ .gathered) i 0)
-  pub all : (g : ℕ) → Of g → Gathered (notesOf wk) 0 n g → Gathered (notesOf wk′) 0 m g
+abbrev pub Kept : (ℕ → Type 0) → List ℕ → ℕ → List ℕ → ℕ → Type 0
+Kept Of wk = KeptFrom Of wk 0

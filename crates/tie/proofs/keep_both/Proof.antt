@@ -1,7 +1,7 @@
 -- `keep_both` meets its contract: what mentions the root is stamped.
 use native.Mathlib.Omega.{arith}
 use borrow.Author.Needs.{needs}
-use Rattle.tie.proofs.Keeps.{kept-all, kept-fewer}
+use Rattle.gather.proofs.Keeping.{kept-all, kept-fewer}
 use Rattle.tie.proofs.keep_both.Statement.{statement}
 use Rattle.tie.proofs.keep_both.Tie as tie
 
@@ -19,11 +19,11 @@ pub keep-both-spec : {M : Type 1} → statement M
 keep-both-spec =
     tie.close
     (tie.spec
-    (λ c. rw (c .if1 .taken) (kept-all (c .before .pre .1 .whole) 0))
+    (λ c. rw (c .if1 .taken) (kept-all (c .before .pre .1 .whole) (omega arith)))
     (λ c κs. search needs)
     (λ c. search needs)
     is-long-requires
     (λ c κs. search needs)
     keep-stamped-requires
     (λ c. kept-fewer (c .before .before .before .stamp-class .ensures .all) (c .keep-stamped .ensures))
-    (λ c. let s = c .before .before .before .before .before in kept-all (s .pre .1 .whole) (s .args .n)))
+    (λ c. kept-all (c .before .before .before .before .before .pre .1 .whole) (omega arith)))
