@@ -264,7 +264,7 @@ def longest_rows(strips, program=BENCH + "/longest"):
 
 
 def longest_head():
-    times = ["start us", "own us", "ratio", "longest split us", "own us", "ratio", "mean split us", "own us"]
+    times = ["start us", "own us", "ratio", "longest split us", "own us", "ratio", "call / splits us", "own us"]
     head(FILING + ["splits"] + times)
 
 
@@ -273,7 +273,7 @@ def longest_cells(row):
     for name in ("start", "split"):
         library, independent = (1e6 * seconds for seconds in row[name])
         if row["count"] or name == "start":
-            cells += ["%.1f" % library, "%.1f" % independent]
+            cells += ["%.1f" % time if time > 0 else "-" for time in (library, independent)]
             cells += [ratio(independent / library) if independent > 0 and library > 1 else "-"]
         else:
             cells += ["-"] * 3

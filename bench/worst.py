@@ -23,8 +23,8 @@ BATCH = 8
 # Families: the bounds of their numbers, and the table
 
 def crossed(classes, half, rest, switched):
-    """As filings.joined, but of one class the halves hold opposites, so that every new pair has an entry that crosses
-    and no other one in common."""
+    """As filings.joined, but each group holds one class, and the halves hold opposites of it, so that every new pair has
+    an entry that crosses and no other one in common."""
     name = filings.Namer()
     switch = [name("switch")] if switched else []
     first, second = ([name(letter, k) for k in range(classes)] for letter in "qr")
@@ -33,6 +33,19 @@ def crossed(classes, half, rest, switched):
         for i in range(half):
             mine = [held[i % classes]]
             made.append([-e if side else e for e in mine] + [name(side, (i + j) % 40) for j in range(rest)])
+    return name.filing(made)
+
+
+def mixed(half, size, switched):
+    """Of the half that is tied every other group holds the placement left out, and the others share one with the other
+    half: each group of that may meet, by what two groups hold, and none does."""
+    name = filings.Namer()
+    switch = [name("switch")] if switched else []
+    r, q, common, apart = name("r"), name("q"), name("common"), name("apart")
+    made = [switch + [q, -r]]
+    for i in range(half):
+        made.append(([q, common] if i % 2 else [-q, apart]) + [name(i % 2, (i + j) % 40) for j in range(size - 2)])
+        made.append([r, common] + [name("y", (i + j) % 40) for j in range(size - 2)])
     return name.filing(made)
 
 
@@ -69,6 +82,7 @@ FAMILIES = {
     "joined": (filings.joined, [(1, 125), (1, 255), (3, 130), BOTH]),
     "scattered": (filings.scattered, [(1, 125), (2, 120), (1, 511), (0, 6), BOTH]),
     "crossed": (crossed, [(1, 60), (1, 255), (2, 20), BOTH]),
+    "mixed": (mixed, [(2, 255), (3, 130), BOTH]),
     "sunk": (sunk, [(2, 255), (1, 400), (2, 12), BOTH]),
     "released": (filings.released, [(1, 60), (2, 120)]),
     "ties": (filings.one_class, [(0, 3), (1, 120), (1, 480)]),

@@ -103,7 +103,7 @@ extern "C" {
 /* What a call answers. Everything is 0 or false where an operation's comment says nothing else. */
 typedef struct platewright_answer {
     uint32_t number; /* one of the numbers above */
-    uint32_t count;  /* search, list: the splits that were made */
+    uint32_t count;  /* search, list: the splits of the tree, up to where it ends or is stopped */
     size_t place;    /* refusals 5 and those of a strip: where, from 0; list: the rows, save: the bytes written */
     size_t n;        /* read: the number of placements */
     size_t used;     /* read, add, take back: the used length of the table */

@@ -143,7 +143,7 @@ class Refused(Exception):
 
 
 class Searched(NamedTuple):
-    """What search found. number is LAID_OUT, NO_LAYOUT or STOPPED; count the splits made; plan, of a layout, 1 or 0 for
+    """What search found. number is LAID_OUT, NO_LAYOUT or STOPPED; count the tree's splits; plan, of a layout, 1 or 0 for
     each placement; trail, of a layout, the splits on the path to it, +p taken and -p left out. Without a layout plan
     and trail are None."""
     number: int
@@ -183,7 +183,7 @@ class Read(NamedTuple):
 
 
 class Windowed(NamedTuple):
-    """What the window's call gave. number is LAID_OUT, NO_LAYOUT or STOPPED; count the splits made; plan, of a layout,
+    """What the window's call gave. number is LAID_OUT, NO_LAYOUT or STOPPED; count the tree's splits; plan, of a layout,
     1 or 0 for each placement, else None; receipt its 16 bytes."""
     number: int
     count: int

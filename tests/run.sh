@@ -86,6 +86,7 @@ mkdir "$room/trials"
     printf '%s\n' trials*.cpp | xargs -P "$(nproc)" -I{} \
         g++ -std=c++17 "${sanitized[@]}" -Wno-psabi "${with[@]}" -c {} -o "$room/trials/{}.o"
 )
+# the quick walks without sanitizers: they would take most of the time
 g++ -std=c++17 -O2 -Wall -Wextra -Werror -Wno-psabi "${with[@]}" -c tests/quick.cpp -o "$room/trials/quick.o"
 g++ "${sanitized[@]}" "$room"/trials/*.o "$archive" "$memo_trial" -lrapidcheck -o "$room/trials/trials"
 "$room/trials/trials" >"$room/trials.out" || { tail -n 60 "$room/trials.out"; exit 1; }

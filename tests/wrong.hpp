@@ -309,7 +309,10 @@ inline Answer search(const int16_t *table, size_t length, size_t n, uint32_t all
 memo_trial remembering(const int16_t *table, size_t length, size_t n, uint32_t allowance, uint8_t *plan, int16_t *trail,
                        size_t slots, uint32_t spread);
 
-inline bool in_memory() { return chosen() >= FIRST_SIDE_LOST && chosen() <= HASH_FOR_KEY; }
+/* With -1 for a fault it has none. */
+inline bool in_memory() {
+    return chosen() < 0 || (chosen() >= FIRST_SIDE_LOST && chosen() <= HASH_FOR_KEY);
+}
 
 inline memo_trial memo_search(const int16_t *table, size_t length, size_t n, uint32_t allowance, uint8_t *plan,
                               size_t plan_len, int16_t *trail, size_t trail_len, size_t slots, uint32_t spread) {

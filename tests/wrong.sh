@@ -17,6 +17,12 @@ g++ "$work"/*.o "${archives[@]}" -lrapidcheck -o "$work/trials"
 "$work/trials" hand check index search settle list edits read save window properties >/dev/null
 echo "no fault: nothing found"
 
+# nor is anything found in the search of wrong_memory.cpp without a fault, as far as the trials come in some seconds
+status=0
+WRONG=-1 timeout 10 "$work/trials" memory >"$work/out" 2>&1 || status=$?
+[ "$status" = 0 ] || [ "$status" = 124 ] || { cat "$work/out"; exit 1; }
+echo "no fault of the memory: nothing found"
+
 "$work/trials" programs >"$work/programs"
 [ -s "$work/programs" ] || { echo "no wrong program is listed"; exit 1; }
 missed=0

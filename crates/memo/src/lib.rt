@@ -43,7 +43,7 @@ pub const MOST_SLOTS: usize = SIZE;
 
 pub const SPREAD: usize = 4096;
 
-// What the memo may still cost, in some nanoseconds. Every split adds a little, a look and a held slot take what they cost, and splits saved add what they
+// What the memo may still cost, in nanoseconds or so. Every split adds a little, a look and a held slot take what they cost, and splits saved add what they
 // would have cost. So the memo costs at most what it saved and some hundredths of the search.
 const INCOME: u32 = 16;
 
@@ -104,12 +104,15 @@ fn word_at(memory: &Memory, i: usize) -> u16
     memory[i]
 }
 
+// A word has so many values.
+const WORD: u32 = 65536;
+
 // A number of two words.
 fn number_at(memory: &Memory, i: usize) -> u32
     requires { ⌜ i + 1 < memorySize ⌝ }
     ensures { λ r. ⌜ r ≡ numberIn (now (memory .entry)) i ⌝ }
 {
-    word_at(memory, i) as u32 + 65536 * (word_at(memory, i + 1) as u32)
+    word_at(memory, i) as u32 + WORD * (word_at(memory, i + 1) as u32)
 }
 
 fn put_number(memory: &mut Memory, i: usize, x: u32)
@@ -117,8 +120,8 @@ fn put_number(memory: &mut Memory, i: usize, x: u32)
     requires { ⌜ length (now memory) ≡ memorySize ⌝ }
     ensures { λ _. ⌜ Numbered i x (now (memory .entry)) (now (memory .exit)) ⌝ }
 {
-    memory[i] = (x % 65536) as u16;
-    memory[i + 1] = (x / 65536) as u16;
+    memory[i] = (x % WORD) as u16;
+    memory[i + 1] = (x / WORD) as u16;
 }
 
 fn credit_of(memory: &Memory) -> u32

@@ -18,7 +18,7 @@ pub record Notes : Type 0 where
 abbrev pub maxBlocks : ℕ
 maxBlocks = 2 * maxVariables
 
--- clauses are gathered for a tie from place 0 on, and for a look at pairs from maxLiterals on
+-- clauses are gathered from place 0 on, for a tie and for the near side of a look at pairs; those that face them, from maxLiterals on
 abbrev pub maxGathered : ℕ
 maxGathered = 2 * maxLiterals
 

@@ -18,7 +18,7 @@ pub struct Block {
 // A block is listed for each variable at the start, and by each tie, which leaves a root fewer.
 const MAX_BLOCKS: usize = 2 * Literal::MAX_VARIABLES;
 
-// Clauses are gathered for a tie from place 0 on, and for a look at pairs from here on.
+// Clauses are gathered from place 0 on, for a tie and for the near side of a look at pairs; those that face them, from here on.
 pub const FACING: usize = Literal::MAX_LITERALS;
 
 // Where the parts begin: clauses to look at from 0 on, how many, blocks of four words, how many, gathered clauses.

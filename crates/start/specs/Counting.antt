@@ -23,7 +23,7 @@ pub record CountedBelow (ix : List ℕ) (t : Tally) (w : Notes) (end n : ℕ) : 
   pub inside : (i : ℕ) → i < end → getD (w .todo) i 0 < n
   pub few : end ≤ n
 
--- no step was made, and no root is listed
+-- no step was made, and no block is listed
 pub record Fresh (ix st wk : List ℕ) : Type 0 where
   pub initially : stateIn st ≡ initial
   pub sound : Sound ix st wk

@@ -1,4 +1,4 @@
--- Where steps in any order may stop: counts say that rules 1 to 6 fit no clause, an empty list of variables that 7 and 8 fit no pair; there settling ends too.
+-- Where steps in any order may stop: counts say that rules 1 to 6 fit no clause, an empty list of pairs that 7 and 8 fit none; there settling ends too.
 use mathlib.Core.Path.{_≡_, refl, ap}
 use mathlib.Core.Logic.{⊎-elim}
 use mathlib.Core.Option.{Option, none, orElse}

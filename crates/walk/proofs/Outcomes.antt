@@ -11,7 +11,7 @@ use Rattle.receipt.specs.declared.Outcome.{Outcome}
 use Rattle.receipt.specs.declared.Outcome.the-variants.{LaidOut, NoLayout, Stopped}
 use Rattle.memo.specs.declared.Held.{Held}
 use Rattle.walk.specs.Walk.{noted}
-use Rattle.walk.specs.Learning.{LearntOf}
+use Rattle.walk.specs.Learning.{LearnOf}
 
 abbrev tag : Outcome → ℕ
 tag = tagOf (declared enum)
@@ -26,7 +26,7 @@ noted-other NoLayout d x t h = refl
 noted-other Stopped d x t h = refl
 
 -- nothing is learned
-pub learnt-other : (n c : ℕ) (m : List ℕ) (held : Held) (o : Outcome) → ¬ (o ≡ NoLayout) → LearntOf n c m m held o
+pub learnt-other : (n c : ℕ) (m : List ℕ) (held : Held) (o : Outcome) → ¬ (o ≡ NoLayout) → LearnOf n c m m held o
 learnt-other n c m held LaidOut h = refl
 learnt-other n c m held NoLayout h = absurd (h refl)
 learnt-other n c m held Stopped h = refl

@@ -29,7 +29,7 @@ use Rattle.memo.specs.Memory.{slotsOf, Keying, Keepable, Found, HoldOf, Remembe
 use Rattle.memo.proofs.Learning.{remembered-spared, remembered-trans, holding-remembering, holding-remembered, learning-remembered}
 use Rattle.walk.specs.declared.Level.{Level}
 use Rattle.walk.specs.Walk.{Lasting, Beginning, Splittable, Walked, walked, treeWalk, splitWalk}
-use Rattle.walk.specs.Learning.{LearntOf}
+use Rattle.walk.specs.Learning.{LearnOf}
 use Rattle.walk.proofs.Sides.{branch-open}
 
 -- no rule fits a state at rest
@@ -84,13 +84,13 @@ module _ {ix st wk : List ℕ} {p : ℕ} {l : Level} {plan : List ℕ} {trail : 
 
       -- the whole split, whose walk is w
       pub split-remembered : (w : Walked) → w ≡ splitWalk p l ix st plan trail → (held : Held) → HoldOf n p (stateIn st) m₁ m₂ held → (m₄ : List ℕ) → (o : Outcome) → w .walk .outcome ≡ o →
-          LearntOf n (w .walk .count) m₃ m₄ held o → Remembered n f m m₄
+          LearnOf n (w .walk .count) m₃ m₄ held o → Remembered n f m m₄
       split-remembered w e (In j) h m₄ LaidOut o t = rw t (holding-remembered x h y)
       split-remembered w e (In j) h m₄ NoLayout o t = learning-remembered x h y t (split-known w e o)
       split-remembered w e (In j) h m₄ Stopped o t = rw t (holding-remembered x h y)
       split-remembered w e Nowhere h m₄ o q t = rw (unchanged o t) (remembered-trans (remembered-trans x (remembered-spared (x .remembering) m₂ h)) y)
         where
-          unchanged : (o : Outcome) → LearntOf n (w .walk .count) m₃ m₄ Nowhere o → m₄ ≡ m₃
+          unchanged : (o : Outcome) → LearnOf n (w .walk .count) m₃ m₄ Nowhere o → m₄ ≡ m₃
           unchanged LaidOut t = t
           unchanged NoLayout t = t
           unchanged Stopped t = t

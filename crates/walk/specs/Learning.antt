@@ -8,7 +8,7 @@ use Rattle.memo.specs.declared.Held.{Held}
 use Rattle.memo.specs.Memory.{KeepOf}
 
 -- c splits, where the second side has no layout; nothing where it has one or is stopped
-abbrev pub LearntOf : (n c : ℕ) (m m′ : List ℕ) → Held → Outcome → Type 0
-LearntOf n c m m′ held LaidOut = m′ ≡ m
-LearntOf n c m m′ held NoLayout = KeepOf n c m m′ held
-LearntOf n c m m′ held Stopped = m′ ≡ m
+abbrev pub LearnOf : (n c : ℕ) (m m′ : List ℕ) → Held → Outcome → Type 0
+LearnOf n c m m′ held LaidOut = m′ ≡ m
+LearnOf n c m m′ held NoLayout = KeepOf n c m m′ held
+LearnOf n c m m′ held Stopped = m′ ≡ m

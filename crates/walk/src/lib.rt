@@ -12,7 +12,7 @@ ghost use Rattle.memo.specs.Memory.{Empty, Remembering, Remembered, Keepable};
 ghost use Rattle.side.specs.Branch.{branchOf};
 ghost use Rattle.walk.specs.Branch.{Branching, BranchesOn, Branchable};
 ghost use Rattle.walk.specs.Walk.{Walkable, Splittable, walked, walkFrom, splitWalk, tableWalk, Searchable, Passable, counted, noted, under};
-ghost use Rattle.walk.specs.Learning.{LearntOf};
+ghost use Rattle.walk.specs.Learning.{LearnOf};
 use literal::Literal;
 use literal::Variable;
 use memo::Held;
@@ -194,7 +194,7 @@ fn split(
 fn learn(memory: &mut Memory, held: Held, n: usize, side: Walk, used: u32)
     requires { ⌜ Keepable n (now memory) held ⌝ }
     requires { ⌜ Fits w32 (used + side .count) ⌝ }
-    ensures { λ _. ⌜ LearntOf n (used + side .count) (now (memory .entry)) (now (memory .exit)) held (side .outcome) ⌝ }
+    ensures { λ _. ⌜ LearnOf n (used + side .count) (now (memory .entry)) (now (memory .exit)) held (side .outcome) ⌝ }
 {
     let end = side.outcome;
     let Outcome::NoLayout = end else {
