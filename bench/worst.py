@@ -23,8 +23,8 @@ BATCH = 8
 # Families: the bounds of their numbers, and the table
 
 def crossed(classes, half, rest, switched):
-    """As filings.joined, but each group holds one class, and the halves hold opposites of it, so that every new pair has
-    an entry that crosses and no other one in common."""
+    """As filings.joined, but each group holds one class, and the halves hold opposites of it, so that every new pair
+    has an entry that crosses and no other one in common."""
     name = filings.Namer()
     switch = [name("switch")] if switched else []
     first, second = ([name(letter, k) for k in range(classes)] for letter in "qr")
@@ -133,7 +133,7 @@ def slowest(row):
 
 
 def middle(row, program):
-    """A split's time is the difference of two calls', so one measurement may be off: of five the middle one by ratio."""
+    """A split's time is the difference of two calls', so a measurement may be off: of five the middle one by ratio."""
     rows = [row] + [list(table.longest_rows([row["strip"]], program))[0] for _ in range(4)]
     return sorted(rows, key=lambda r: slowest(r)[1])[2]
 

@@ -143,8 +143,8 @@ class Refused(Exception):
 
 
 class Searched(NamedTuple):
-    """What search found. number is LAID_OUT, NO_LAYOUT or STOPPED; count the tree's splits; plan, of a layout, 1 or 0 for
-    each placement; trail, of a layout, the splits on the path to it, +p taken and -p left out. Without a layout plan
+    """What search found. number is LAID_OUT, NO_LAYOUT or STOPPED; count the tree's splits; plan, of a layout, 1 or 0
+    for each placement; trail, of a layout, the splits on the path to it, +p taken and -p left out. Without a layout plan
     and trail are None."""
     number: int
     count: int
@@ -183,8 +183,8 @@ class Read(NamedTuple):
 
 
 class Windowed(NamedTuple):
-    """What the window's call gave. number is LAID_OUT, NO_LAYOUT or STOPPED; count the tree's splits; plan, of a layout,
-    1 or 0 for each placement, else None; receipt its 16 bytes."""
+    """What the window's call gave. number is LAID_OUT, NO_LAYOUT or STOPPED; count the tree's splits; plan, of a
+    layout, 1 or 0 for each placement, else None; receipt its 16 bytes."""
     number: int
     count: int
     plan: Optional[List[int]]
