@@ -49,6 +49,38 @@ def mixed(half, size, switched):
     return name.filing(made)
 
 
+def sides(half, size, switched, swapped, near, far):
+    """Two halves of groups that share a placement once two are tied, and then what `near` and `far` say of the i-th."""
+    name = filings.Namer()
+    switch = [name("switch")] if switched else []
+    r, q = name("r"), name("q")
+    made = [switch + [q, -r]]
+    a, b = (r, q) if swapped else (q, r)
+    for i in range(half):
+        for side, group in (("near", [a] + near(name, i)), ("far", [b] + far(name, i))):
+            made.append(group + [name(side, (i + j) % 40) for j in range(size - len(group))])
+    return name.filing(made)
+
+
+def late(half, size, switched, swapped):
+    """Only the last group of the one half meets those of the other."""
+    return sides(half, size, switched, swapped, lambda name, i: [-name("y")] if i == half - 1 else [],
+                 lambda name, i: [name("y")])
+
+
+def crosswise(half, size, switched, swapped):
+    """Only the last group of either half meets those of the other."""
+    def hold(mine, other):
+        return lambda name, i: [-name(other) if i == half - 1 else name(mine)]
+    return sides(half, size, switched, swapped, hold("z", "y"), hold("y", "z"))
+
+
+def matched(half, size, switched, swapped):
+    """Each group meets one of the other half, with the opposite of what ties them."""
+    name_of = lambda name, i: [name("y", i)]
+    return sides(half, size, switched, swapped, name_of, lambda name, i: [-name("x", i)] + name_of(name, i))
+
+
 def sunk(count, groups, size, switched):
     """As filings.sinking, with groups that hold the placements which are tied."""
     name = filings.Namer()
@@ -83,6 +115,9 @@ FAMILIES = {
     "scattered": (filings.scattered, [(1, 125), (2, 120), (1, 511), (0, 6), BOTH]),
     "crossed": (crossed, [(1, 60), (1, 255), (2, 20), BOTH]),
     "mixed": (mixed, [(2, 255), (3, 130), BOTH]),
+    "late": (late, [(2, 255), (4, 130), BOTH, BOTH]),
+    "crosswise": (crosswise, [(2, 255), (4, 130), BOTH, BOTH]),
+    "matched": (matched, [(2, 100), (4, 130), BOTH, BOTH]),
     "sunk": (sunk, [(2, 255), (1, 400), (2, 12), BOTH]),
     "released": (filings.released, [(1, 60), (2, 120)]),
     "ties": (filings.one_class, [(0, 3), (1, 120), (1, 480)]),
@@ -175,7 +210,7 @@ def look(options):
             tried += 1
         keep = {b[2]["strip"] for found in best.values() for b in (found.time, found.ratio) if b[2]}
         for _, _, path in batch:
-            if path not in keep:
+            if path not in keep and os.path.exists(path):
                 os.remove(path)
     return best
 

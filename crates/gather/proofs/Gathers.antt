@@ -16,7 +16,7 @@ use Rattle.tally.specs.Tally.{tallyOf, stateIn, linkIn}
 use Rattle.tally.specs.Ring.{Ring}
 use Rattle.tally.specs.Stretch.{Stretch, Reaches}
 use Rattle.tally.proofs.Stretches.{ring-class, ring-stretch, holds-reached, stretch-goes, stretch-unique}
-use Rattle.notes.specs.Notes.{notesOf, Gathered}
+use Rattle.notes.specs.Notes.{notesOf, Gathered, farFrom}
 use Rattle.gather.specs.declared.Sign.the-variants.{Either}
 use Rattle.gather.specs.Gathering.{AtRoot, Beside, Gathering, WideIn, Written, Collecting, Collected, Gatherable, GatheredAlong, Stands, StandsLive}
 use Rattle.gather.proofs.Written.{mem-written, written-mentions, wide-in, in-wide}
@@ -40,7 +40,7 @@ next-width w {p = p} {e = e} {rest = rest} s = elim (decEq p e) [
 
 pub record Gathers (ix st wk : List ℕ) (first last start : ℕ) (wk′ : List ℕ) (end p : ℕ) : Type 0 where
   pub index : Indexed ix
-  pub room : start ≤ maxLiterals
+  pub room : start ≤ farFrom
   pub others : List ℕ
   pub stretch : Stretch (tallyOf st .links) (tallyOf st .values) first last others
   pub along : Along ix st (Gathered (notesOf wk′) start end) (last ∷ others) p last
@@ -139,7 +139,7 @@ module _ {ix st : List ℕ} {r : ℕ} (a : AtRoot ix st r) where
   root-gathered k = record {
     few = omega (arith, k .few);
     beside = k .beside;
-    facing = λ i h. k .beyond i (omega arith);
+    sides = λ i h. k .beyond i (omega arith);
     inside = λ i h. k .inside i (omega arith) h;
     all = mentioned (k .all (ring .others) root-stretch);
   }

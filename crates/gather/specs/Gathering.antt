@@ -16,7 +16,7 @@ use Rattle.tally.specs.Tally.{tallyOf, stateIn, valueIn, countIn}
 use Rattle.tally.specs.Ring.{Classes}
 use Rattle.tally.specs.Stretch.{Stretch, Reaches}
 use Rattle.tally.specs.Counts.{Exact, oneTrue}
-use Rattle.notes.specs.Notes.{notesOf, Gathered, Whole, maxGathered}
+use Rattle.notes.specs.Notes.{notesOf, Gathered, Whole, maxGathered, nearFrom, farFrom}
 
 -- three or more open and none true, by a count
 abbrev pub isWide : ℕ → Bool
@@ -44,7 +44,7 @@ pub record Beside (wk wk′ : List ℕ) : Type 0 where
 pub record Gathering (ix st wk : List ℕ) (r : ℕ) (wk′ : List ℕ) (n : ℕ) : Type 0 where
   pub few : n ≤ maxLiterals
   pub beside : Beside wk wk′
-  pub facing : (i : ℕ) → maxLiterals ≤ i → getD (notesOf wk′ .gathered) i 0 ≡ getD (notesOf wk .gathered) i 0
+  pub sides : (i : ℕ) → nearFrom ≤ i → getD (notesOf wk′ .gathered) i 0 ≡ getD (notesOf wk .gathered) i 0
   pub inside : (i : ℕ) → i < n → getD (notesOf wk′ .gathered) i 0 < clauseCount ix
   pub all : (g : ℕ) → g < clauseCount ix → Wide (standing (stateIn st) (clauseOf ix g)) → 0 < mentions r (standing (stateIn st) (clauseOf ix g)) →
       Gathered (notesOf wk′) 0 n g
@@ -87,7 +87,7 @@ pub record Collected (ix st wk : List ℕ) (p start : ℕ) (s : Sign) (wk′ : L
 pub record Gatherable (ix st wk : List ℕ) (first last start : ℕ) : Type 0 where
   pub index : Indexed ix
   pub whole : Whole wk
-  pub room : start ≤ maxLiterals
+  pub room : start ≤ farFrom
   pub stretch : (l : List ℕ) × Stretch (tallyOf st .links) (tallyOf st .values) first last l
 
 pub record GatheredAlong (ix st wk : List ℕ) (first last start : ℕ) (wk′ : List ℕ) (end : ℕ) : Type 0 where

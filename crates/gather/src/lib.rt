@@ -18,7 +18,7 @@ pub enum Sign {
 }
 
 // 1 where an occurrence has such a sign.
-pub fn signed(occurrence: u16, sign: Sign) -> usize
+fn signed(occurrence: u16, sign: Sign) -> usize
     ensures { λ r. ⌜ r ≡ bit (isSigned sign (occurrence % 2)) ⌝ }
 {
     match sign {

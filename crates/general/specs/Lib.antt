@@ -11,3 +11,4 @@ pub mod Runs
 pub mod Appending
 pub mod Sums
 pub mod Flags
+pub mod Sets

@@ -20,7 +20,7 @@ carried-trans a b = record {
   followed = followed-trans (a .followed) (b .followed);
   grows = omega (arith, a .grows, b .grows);
   kept = λ i h. b .kept i (omega (arith, a .grows)) ∙ a .kept i h;
-  facing = λ i h. b .facing i h ∙ a .facing i h;
+  gathered = λ i h. b .gathered i h ∙ a .gathered i h;
 }
 
 -- variables fall
@@ -30,7 +30,7 @@ module _ {ix st wk st′ wk′ : List ℕ} (s : Sound ix st wk) (f : Falls (form
     followed = followed-falls f (s .classes .base) (m .went .links);
     grows = omega (arith, m .went .blocksEnd);
     kept = λ i h. rw (m .went .blocks);
-    facing = λ i h. ap (λ (l : List ℕ). getD l i 0) (m .gathered);
+    gathered = λ i h. ap (λ (l : List ℕ). getD l i 0) (m .gathered);
   }
 
   pub blocks-fell : Blocks st wk → Blocks st′ wk′

@@ -3,13 +3,12 @@ use mathlib.Core.Path.{_≡_}
 use mathlib.Core.List.{List}
 use Prim.Native.Nat.{ℕ, _≤_, _<_}
 use lib.ListN.{getD}
-use Rattle.literal.specs.Literal.{maxLiterals}
 use Rattle.theory.specs.Formula.{Clause}
 use Rattle.tally.specs.Tally.{tallyOf}
 use Rattle.tally.specs.Stretch.{Followed}
 use Rattle.tally.specs.Block.{Spans, Lists}
 use Rattle.notes.specs.declared.Block.{Block}
-use Rattle.notes.specs.Notes.{notesOf, blockAt}
+use Rattle.notes.specs.Notes.{notesOf, blockAt, nearFrom}
 
 -- the pairs of a block
 abbrev pub ListsIn : List ℕ → Block → Clause → Clause → Type 0
@@ -32,4 +31,4 @@ pub record Carried (st wk st′ wk′ : List ℕ) : Type 0 where
   pub followed : Followed (tallyOf st .values) (tallyOf st .links) (tallyOf st′ .values) (tallyOf st′ .links)
   pub grows : notesOf wk .blocksEnd ≤ notesOf wk′ .blocksEnd
   pub kept : (i : ℕ) → i < notesOf wk .blocksEnd → blockAt (notesOf wk′) i ≡ blockAt (notesOf wk) i
-  pub facing : (i : ℕ) → maxLiterals ≤ i → getD (notesOf wk′ .gathered) i 0 ≡ getD (notesOf wk .gathered) i 0
+  pub gathered : (i : ℕ) → nearFrom ≤ i → getD (notesOf wk′ .gathered) i 0 ≡ getD (notesOf wk .gathered) i 0

@@ -18,9 +18,15 @@ pub record Notes : Type 0 where
 abbrev pub maxBlocks : ℕ
 maxBlocks = 2 * maxVariables
 
--- clauses are gathered from place 0 on, for a tie and for the near side of a look at pairs; those that face them, from maxLiterals on
+-- clauses are gathered from place 0 on for a tie; for a look at pairs those of the two sides of a block, from here on
+abbrev pub nearFrom : ℕ
+nearFrom = maxLiterals
+
+abbrev pub farFrom : ℕ
+farFrom = 2 * maxLiterals
+
 abbrev pub maxGathered : ℕ
-maxGathered = 2 * maxLiterals
+maxGathered = farFrom + maxLiterals
 
 -- where the parts stand: the clauses to look at from 0 on, and how many, the blocks, four words each, and how many, the gathered clauses
 abbrev pub todoEndAt : ℕ

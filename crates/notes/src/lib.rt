@@ -18,8 +18,10 @@ pub struct Block {
 // A block is listed for each variable at the start, and by each tie, which leaves a root fewer.
 const MAX_BLOCKS: usize = 2 * Literal::MAX_VARIABLES;
 
-// Clauses are gathered from place 0 on, for a tie and for the near side of a look at pairs; those that face them, from here on.
-pub const FACING: usize = Literal::MAX_LITERALS;
+// Clauses are gathered from place 0 on for a tie; for a look at pairs those of the two sides of a block, from here on, so that ties leave them.
+pub const NEAR: usize = Literal::MAX_LITERALS;
+
+pub const FAR: usize = 2 * Literal::MAX_LITERALS;
 
 // Where the parts begin: clauses to look at from 0 on, how many, blocks of four words, how many, gathered clauses.
 const TODO_END: usize = Literal::MAX_TABLE;
@@ -30,7 +32,7 @@ const BLOCKS_END: usize = BLOCKS + 4 * MAX_BLOCKS;
 
 const GATHERED: usize = BLOCKS_END + 1;
 
-pub const SIZE: usize = GATHERED + 2 * Literal::MAX_LITERALS;
+pub const SIZE: usize = GATHERED + 3 * Literal::MAX_LITERALS;
 
 pub type Notes = [u16; SIZE];
 

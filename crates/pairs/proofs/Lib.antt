@@ -9,8 +9,7 @@ pub mod Passes
 pub mod Sharing
 pub mod Looking
 pub mod Rows
-pub mod Variables
-pub mod Walking
 pub mod Seeing
 pub mod Touching
-pub mod Blocks
+pub mod Chunks
+pub mod Sides

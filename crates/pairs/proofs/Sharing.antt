@@ -25,7 +25,7 @@ use Rattle.moves.specs.Stepping.{Died}
 use Rattle.moves.proofs.Moves.{moved-refl, moved-trans}
 use Rattle.moves.proofs.Dying.{dies-in, fallen-dies}
 use Rattle.pairs.specs.Meeting.{Marked, Like}
-use Rattle.pairs.specs.Faces.{Sharing, ClearOf}
+use Rattle.pairs.specs.Places.{Sharing, ClearOf}
 use Rattle.pairs.proofs.Clauses.{not-standing}
 use Rattle.pairs.proofs.Matched.{before}
 use Rattle.pairs.proofs.Reading.{restOf, rest-whole, rest-none, rest-cons, Reads, reads-begin, reads-go, place-member, value-low}

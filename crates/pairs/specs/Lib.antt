@@ -1,5 +1,5 @@
 pub mod Meeting
-pub mod Faces
-pub mod Seen
 pub mod Looking
-pub mod Parts
+pub mod Places
+pub mod Seen
+pub mod Sides

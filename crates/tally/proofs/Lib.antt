@@ -5,5 +5,4 @@ pub mod Rings
 pub mod Turned
 pub mod Stretches
 pub mod Blocks
-pub mod Walks
 pub mod Loads

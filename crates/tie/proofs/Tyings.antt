@@ -40,7 +40,7 @@ use Rattle.tie.specs.Listing.{blockBetween, ListedBy}
 use Rattle.undouble.specs.Doubling.{Once, DoublingAll, UndoubledAll}
 use Rattle.tie.specs.Keeping.{WideWith, Kept}
 use Rattle.tie.specs.Tying.{Tieable, Tied, TieOf}
-use Rattle.tie.proofs.Between.{joined-followed, joined-arcs, joined-lists, joined-unheld}
+use Rattle.tie.proofs.Between.{joined-followed, joined-sides, joined-lists, joined-unheld}
 
 module _ {ix st wk : List ℕ} {low high : ℕ} (d : Tieable ix st wk low high) where
   s : Sound ix st wk
@@ -167,8 +167,8 @@ module _ {ix st wk : List ℕ} {low high : ℕ} (d : Tieable ix st wk low high) 
           abbrev block : Block
           block = blockBetween st (high / 2) (low / 2)
 
-          pub block-arcs : SpansIn st₁ block
-          block-arcs = inr (rw half at (joined-arcs tying-turnable j))
+          pub block-spans : SpansIn st₁ block
+          block-spans = inr (rw half at (joined-sides tying-turnable j))
 
           block-same : (i : ℕ) → i < notesOf wk .blocksEnd → blockAt (notesOf wk₂) i ≡ blockAt (notesOf wk) i
           block-same i h = p .kept i (omega (arith, beside .blocksEnd)) ∙ rw (beside .blocks)
@@ -178,7 +178,7 @@ module _ {ix st wk : List ℕ} {low high : ℕ} (d : Tieable ix st wk low high) 
             followed = joined-followed tying-turnable j;
             grows = omega (arith, p .grows, beside .blocksEnd);
             kept = block-same;
-            facing = λ i h. ap (λ (l : List ℕ). getD l i 0) (p .gathered) ∙ b .beyond i (omega (arith, k .few)) ∙ k .facing i h;
+            gathered = λ i h. ap (λ (l : List ℕ). getD l i 0) (p .gathered) ∙ b .beyond i (omega (arith, k .few)) ∙ k .sides i h;
           }
 
           blocks : Blocks st₁ wk₂
@@ -187,7 +187,7 @@ module _ {ix st wk : List ℕ} {low high : ℕ} (d : Tieable ix st wk low high) 
                 (λ b.
                 let l : i < notesOf wk .blocksEnd = omega (arith, beside .blocksEnd) in
                 subst (SpansIn st₁) (sym (block-same i l)) (spans-carried carried (blockAt (notesOf wk) i) (d .blocks .at i l)))
-                (λ e. subst (SpansIn st₁) (sym e) block-arcs)
+                (λ e. subst (SpansIn st₁) (sym e) block-spans)
                 (p .only i h);
           }
 

@@ -7,19 +7,19 @@ use Rattle.pairs.proofs.first_met.Statement.{statement}
 use Rattle.pairs.proofs.first_met.Tie as tie
 
 abbrev Inv-loop : tie.InvT-loop
-Inv-loop index state work g from n marks i₀ i = Compares index state work g from n marks i
+Inv-loop index state work g from to marks i₀ i = Compares index state work g from to marks i
 
 abbrev μ-loop : tie.MeasureT-loop
-μ-loop index state work g from n marks i₀ i = n - i
+μ-loop index state work g from to marks i₀ i = to - i
 
 mark-clause-requires : tie.Need-mark-clause-requires Inv-loop μ-loop
-mark-clause-requires c κs = c .pre .readable
+mark-clause-requires c κs = c .pre .1
 
 loop-holds : tie.Need-loop-holds Inv-loop μ-loop
-loop-holds c = compares-begins (c .before .args .from) (c .before .pre) (c .mark-clause .ensures)
+loop-holds c = let p = c .before .pre in compares-begins (p .0) (p .1) (c .mark-clause .ensures)
 
 gathered-at-requires : tie.Need-gathered-at-requires Inv-loop μ-loop
-gathered-at-requires c κs = omega (arith, c .loop-test .taken, c .before .loop .inv .comparing .faces .few)
+gathered-at-requires c κs = omega (arith, c .loop-test .taken, c .before .loop .inv .comparing .placed .room)
 
 meet-wide-requires : tie.Need-meet-wide-requires Inv-loop μ-loop
 meet-wide-requires c κs =
@@ -58,7 +58,6 @@ first-met-spec =
     μ-loop
     mark-clause-requires
     loop-holds
-    (λ c. omega (arith, c .loop-test .taken, c .before .loop .inv .comparing .faces .few))
     gathered-at-requires
     (λ c. search needs)
     meet-wide-requires
@@ -67,7 +66,7 @@ first-met-spec =
     returns
     (λ c. search needs)
     returns-2
-    (λ c. let t = c .before .before .before .before .before in omega (arith, t .loop-test .taken, t .before .loop .inv .comparing .faces .few))
+    (λ c. let t = c .before .before .before .before .before in omega (arith, t .loop-test .taken, t .before .loop .inv .comparing .placed .room))
     (λ c. omega (arith, c .before .before .before .before .before .loop-test .taken))
     loop-again
     (λ c. compares-ends (c .before .loop .inv) (c .loop-test .left)))

@@ -1,10 +1,10 @@
--- A wide clause and the clauses that face it, which were gathered before.
+-- A wide clause and clauses that were gathered for a look, each at its place.
 use mathlib.Core.Bool.{Bool, true, false}
 use mathlib.Core.List.{List, List·Memᴰ}
-use Prim.Native.Nat.{ℕ, _+_, _≤_, _<_}
+use Prim.Native.Nat.{ℕ, _≤_, _<_}
 use lib.ListN.{getD}
 use Rattle.literal.specs.declared.Literal.{Literal}
-use Rattle.literal.specs.Literal.{maxVariables, maxLiterals}
+use Rattle.literal.specs.Literal.{maxVariables}
 use Rattle.theory.specs.Formula.{Clause}
 use Rattle.theory.specs.State.{standing}
 use Rattle.theory.proofs.Counts.{Wide}
@@ -14,7 +14,7 @@ use Rattle.theory.proofs.Paired.{Meet}
 use Rattle.occurrences.specs.Index.{clauseCount, clauseOf, formulaOf}
 use Rattle.tally.specs.Tally.{tallyOf, stateIn}
 use Rattle.tally.specs.Counts.{roots}
-use Rattle.notes.specs.Notes.{notesOf, Whole}
+use Rattle.notes.specs.Notes.{notesOf, Whole, nearFrom, maxGathered}
 use Rattle.moves.specs.Moving.{Moved}
 use Rattle.moves.specs.Stepping.{Died}
 use Rattle.tie.specs.Tying.{Tying}
@@ -23,26 +23,27 @@ use Rattle.pairs.specs.Looking.{Lookable}
 use Rattle.pairs.specs.declared.Faced.{Faced}
 use Rattle.pairs.specs.declared.Faced.the-variants.{Apart, Common, Crossed}
 
--- the i-th clause that faces, by its number
-abbrev pub facingAt : List ℕ → ℕ → ℕ
-facingAt wk i = getD (notesOf wk .gathered) (maxLiterals + i) 0
+-- the clause at place i, and its number
+abbrev pub numberAt : List ℕ → ℕ → ℕ
+numberAt wk i = getD (notesOf wk .gathered) i 0
 
-abbrev pub facing : (ix wk : List ℕ) → ℕ → Clause
-facing ix wk i = clauseOf ix (facingAt wk i)
+abbrev pub clauseAt : (ix wk : List ℕ) → ℕ → Clause
+clauseAt ix wk i = clauseOf ix (numberAt wk i)
 
--- there are n
-pub record Faces (ix wk : List ℕ) (n : ℕ) : Type 0 where
-  pub few : n ≤ maxLiterals
-  pub inside : (i : ℕ) → i < n → facingAt wk i < clauseCount ix
+-- there is one at each place from a to b; ties leave them
+pub record Placed (ix wk : List ℕ) (a b : ℕ) : Type 0 where
+  pub late : nearFrom ≤ a
+  pub room : b ≤ maxGathered
+  pub inside : (i : ℕ) → a ≤ i → i < b → numberAt wk i < clauseCount ix
 
--- clause g and the i-th do not meet
+-- clause g and the one at place i do not meet
 abbrev pub Unmet : (ix st wk : List ℕ) → ℕ → ℕ → Type 0
-Unmet ix st wk g i = ¬ Meet (stateIn st) (clauseOf ix g) (facing ix wk i)
+Unmet ix st wk g i = ¬ Meet (stateIn st) (clauseOf ix g) (clauseAt ix wk i)
 
-pub record Comparing (ix st wk : List ℕ) (g n : ℕ) : Type 0 where
+pub record Comparing (ix st wk : List ℕ) (g a b : ℕ) : Type 0 where
   pub lookable : Lookable ix st wk
-  pub faces : Faces ix wk n
-  pub readable : Readable ix st g
+  pub placed : Placed ix wk a b
+  pub inside : g < clauseCount ix
 
 -- rule 7 fits clauses g and h
 pub record Sharing (ix st : List ℕ) (g h : ℕ) : Type 0 where
@@ -53,14 +54,16 @@ pub record Sharing (ix st : List ℕ) (g h : ℕ) : Type 0 where
   pub meets : Meets Wide (standing (stateIn st) (clauseOf ix g)) (standing (stateIn st) (clauseOf ix h)) common crossing
   pub shared : List·Memᴰ common (standing (stateIn st) (clauseOf ix h))
 
--- the i-th is the first from a on that may meet clause g
-abbrev pub FirstAt : (ix st wk : List ℕ) → (g a n i : ℕ) → Type 0
-FirstAt ix st wk g a n i = (i < n) × ((j : ℕ) → a ≤ j → j < i → Unmet ix st wk g j)
+-- place i is the first from a to b at which one may meet clause g
+pub record FirstAt (ix st wk : List ℕ) (g a b i : ℕ) : Type 0 where
+  pub from : a ≤ i
+  pub below : i < b
+  pub before : (j : ℕ) → a ≤ j → j < i → Unmet ix st wk g j
 
-abbrev pub FacedBy : (ix st wk : List ℕ) → (g a n : ℕ) → Faced → Type 0
-FacedBy ix st wk g a n Apart = (j : ℕ) → a ≤ j → j < n → Unmet ix st wk g j
-FacedBy ix st wk g a n (Common i) = FirstAt ix st wk g a n i × Sharing ix st g (facingAt wk i)
-FacedBy ix st wk g a n (Crossed low high i) = FirstAt ix st wk g a n i × Tying ix st low high
+abbrev pub FacedBy : (ix st wk : List ℕ) → (g a b : ℕ) → Faced → Type 0
+FacedBy ix st wk g a b Apart = (j : ℕ) → a ≤ j → j < b → Unmet ix st wk g j
+FacedBy ix st wk g a b (Common i) = FirstAt ix st wk g a b i × Sharing ix st g (numberAt wk i)
+FacedBy ix st wk g a b (Crossed low high i) = FirstAt ix st wk g a b i × Tying ix st low high
 
 -- literals fell by rule 7, at least one; after a dead end (true) nothing is known of the state and the lists
 abbrev pub ClearOf : (ix st wk st′ wk′ : List ℕ) → Bool → Type 0

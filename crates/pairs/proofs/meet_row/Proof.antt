@@ -1,26 +1,27 @@
--- `meet_facing` meets its contract, by the laws of Rows.
+-- `meet_row` meets its contract, by the laws of Rows.
 use Prim.Native.Nat.{_<_}
 use borrow.Author.Needs.{needs}
 use native.Mathlib.Omega.{arith}
 use denote.Ref.{now}
-use Rattle.literal.specs.Literal.{maxVariables, maxLiterals}
+use Rattle.literal.specs.Literal.{maxVariables}
+use Rattle.notes.specs.Notes.{maxGathered}
 use Rattle.tally.specs.Tally.{tallyOf}
 use Rattle.tally.specs.Counts.{roots}
-use Rattle.pairs.specs.Faces.{FacedBy}
+use Rattle.pairs.specs.Places.{FacedBy}
 use Rattle.pairs.specs.declared.Faced.the-variants.{Common, Crossed}
-use Rattle.pairs.proofs.Rows.{Rows, rows-begin, rows-narrow, rows-ask, rows-apart, rows-tie, rows-dead, rows-cleared, rows-tied}
-use Rattle.pairs.proofs.meet_facing.Statement.{statement}
-use Rattle.pairs.proofs.meet_facing.Tie as tie
+use Rattle.pairs.proofs.Rows.{Rows, rows-begin, rows-narrow, rows-readable, rows-ask, rows-apart, rows-tie, rows-dead, rows-cleared, rows-tied}
+use Rattle.pairs.proofs.meet_row.Statement.{statement}
+use Rattle.pairs.proofs.meet_row.Tie as tie
 
 abbrev Inv-loop : tie.InvT-loop
-Inv-loop index state₀ work₀ g n at₀ state work at = Rows index state₀ work₀ g n state work at
+Inv-loop index state₀ work₀ g from to at₀ state work at = Rows index state₀ work₀ g from to state work at
 
 -- each step closes an open root
 abbrev μ-loop : tie.MeasureT-loop
-μ-loop index state₀ work₀ g n at₀ state work at = roots (tallyOf state .values) maxVariables
+μ-loop index state₀ work₀ g from to at₀ state work at = roots (tallyOf state .values) maxVariables
 
 loop-holds : tie.Need-loop-holds Inv-loop μ-loop
-loop-holds c = rows-begin (c .pre .0) (c .pre .1)
+loop-holds c = rows-begin (c .pre)
 
 count-of-requires : tie.Need-count-of-requires Inv-loop μ-loop
 count-of-requires c κs = let o = c .before .loop .inv in omega (arith, o .inside, o .looking .at .lookable .sound .index .few)
@@ -36,7 +37,8 @@ first-met-requires c κs =
     let e = c .before .before in
     let w = e .before in
     let k = w .before in
-    rows-ask (k .before .before .loop .inv) (k .count-of .result) (w .wide .result) (k .count-of .ensures) (w .wide .ensures) (e .if1 .left)
+    let o = k .before .before .loop .inv in
+    (rows-ask o, rows-readable o (k .count-of .result) (w .wide .result) (k .count-of .ensures) (w .wide .ensures) (e .if1 .left))
 
 returns-2 : tie.Need-returns-2 Inv-loop μ-loop
 returns-2 c =
@@ -46,11 +48,11 @@ returns-2 c =
 -- the first that meets the clause, by rule 7
 found : (c : tie.After-faced Inv-loop μ-loop) →
     let l = c .before .before .before .before .before .before .before .before .before in
-    FacedBy (now (l .before .args .index)) (l .loop .state) (l .loop .work) (l .before .args .g) (l .loop .at) (l .before .args .n) (Common (c .faced .given .0 .0))
+    FacedBy (now (l .before .args .index)) (l .loop .state) (l .loop .work) (l .before .args .g) (l .loop .at) (l .before .args .to) (Common (c .faced .given .0 .0))
 found c = rw (c .faced .given .1) at (c .before .before .first-met .ensures)
 
-few : (c : tie.After-faced Inv-loop μ-loop) → c .faced .given .0 .0 < maxLiterals
-few c = omega (arith, found c .0 .0, c .before .before .before .before .before .before .before .before .before .loop .inv .faces .few)
+few : (c : tie.After-faced Inv-loop μ-loop) → c .faced .given .0 .0 < maxGathered
+few c = omega (arith, found c .0 .below, c .before .before .before .before .before .before .before .before .before .loop .inv .placed .room)
 
 gathered-at-requires : tie.Need-gathered-at-requires Inv-loop μ-loop
 gathered-at-requires c κs = omega (arith, few (c .before .before))
@@ -79,7 +81,7 @@ loop-again c =
 -- the same, by rule 8
 crossed : (c : tie.After-faced2 Inv-loop μ-loop) →
     let l = c .before .before .before .before .before .before .before .before .before in
-    FacedBy (now (l .before .args .index)) (l .loop .state) (l .loop .work) (l .before .args .g) (l .loop .at) (l .before .args .n)
+    FacedBy (now (l .before .args .index)) (l .loop .state) (l .loop .work) (l .before .args .g) (l .loop .at) (l .before .args .to)
     (Crossed (c .faced2 .given .0 .0) (c .faced2 .given .0 .1 .0) (c .faced2 .given .0 .1 .1 .0))
 crossed c = rw (c .faced2 .given .1) at (c .before .before .first-met .ensures)
 
@@ -103,8 +105,8 @@ loop-again-2 c =
     let l = f .before .before .before .before .before .before .before .before .before in
     rows-tied (l .loop .inv) (f .faced2 .given .0 .1 .1 .0) (crossed f .0) (rw (c .if3 .left) at (c .before .tie .ensures))
 
-pub meet-facing-spec : {M : Type 1} → statement M
-meet-facing-spec =
+pub meet-row-spec : {M : Type 1} → statement M
+meet-row-spec =
     tie.close
     (tie.spec
     Inv-loop
@@ -117,7 +119,6 @@ meet-facing-spec =
     (λ c. search needs)
     returns-2
     (λ c. search needs)
-    (λ c. omega (arith, few (c .before .before)))
     gathered-at-requires
     (λ c. search needs)
     clear-common-requires
