@@ -148,16 +148,27 @@ pub fn walked(memory: &Memory) -> u32 {
 
 // The beginning ----------------------------------------------------------------------------------------------------
 
-// Odd weights below 2 * spread, by a generator of remainders.
+// A linear congruential generator. The low part of its numbers repeats soon and is dropped; the rest is below SPREAD. No answer depends on these numbers.
+const SEED: usize = 12345;
+
+const MULTIPLIER: usize = 1103;
+
+const INCREMENT: usize = 12345;
+
+const LOW: usize = 256;
+
+const MODULUS: usize = LOW * SPREAD;
+
+// Odd weights below 2 * spread, by the generator.
 fn put_weights(memory: &mut Memory, spread: usize)
     requires { ⌜ 0 < spread ⌝ }
     requires { ⌜ spread ≤ spreadMost ⌝ }
     ensures { λ _. ⌜ Outside 0 variables (now (memory .entry)) (now (memory .exit)) ⌝ }
 {
-    let mut x: usize = 12345;
+    let mut x = SEED;
     for i in 0..Literal::VARIABLES {
-        x = (x * 1103 + 12345) % 1048576;
-        memory[i] = (2 * (x / 256 % spread) + 1) as u16;
+        x = (x * MULTIPLIER + INCREMENT) % MODULUS;
+        memory[i] = (2 * (x / LOW % spread) + 1) as u16;
     }
 }
 
@@ -183,11 +194,16 @@ fn word(value: u16, p: usize) -> u16
     if value < 2 * (p as u16) { 0 } else { value }
 }
 
+// Powers of two above every word of a key and above every weight.
+const WORD_BOUND: u16 = 1024;
+
+const WEIGHT_BOUND: u16 = 2 * SPREAD as u16;
+
 // What a word adds to the hash. The remainders change nothing; they keep the sum in its range.
 fn share(word: u16, weight: u16) -> u32
     ensures { λ r. ⌜ r ≤ shareMost ⌝ }
 {
-    ((word % 1024) as u32) * ((weight % 8192) as u32)
+    ((word % WORD_BOUND) as u32) * ((weight % WEIGHT_BOUND) as u32)
 }
 
 // The hash of a key: it picks the slot and the tag, and says nothing else.

@@ -1,5 +1,6 @@
 // Search: the first layout of a table, by the split tree of document 01.
 ghost use mathlib.Core.Path.{_≡_};
+ghost use Rattle.receipt.specs.declared.Searching.the-variants.{Refused};
 ghost use Rattle.theory.specs.Calls.{searchCall};
 ghost use Rattle.search.specs.Call.{called};
 use receipt::Checked;
@@ -11,6 +12,15 @@ use receipt::Searching;
 pub struct Tried {
     pub answer: Searching,
     pub walked: u32,
+}
+
+fn refused(refusal: Refusal) -> Tried
+    ensures { λ r. ⌜ r .answer ≡ Refused refusal ⌝ }
+{
+    Tried {
+        answer: Searching::Refused(refusal),
+        walked: 0,
+    }
 }
 
 // Search with so many slots of the memo, and weights of its hash that spread so far: no answer depends on either.
@@ -27,22 +37,13 @@ pub fn search_with(
 {
     let checked = table::check_table(table, n);
     if let Checked::Refused(refusal) = checked {
-        return Tried {
-            answer: Searching::Refused(refusal),
-            walked: 0,
-        };
+        return refused(refusal);
     }
     if plan.len() < n {
-        return Tried {
-            answer: Searching::Refused(Refusal::new(Fault::PlanShort, 0)),
-            walked: 0,
-        };
+        return refused(Refusal::new(Fault::PlanShort, 0));
     }
     if trail.len() < n {
-        return Tried {
-            answer: Searching::Refused(Refusal::new(Fault::TrailShort, 0)),
-            walked: 0,
-        };
+        return refused(Refusal::new(Fault::TrailShort, 0));
     }
     fill::clear_bytes(plan, 0, n);
     fill::clear_numbers(trail, 0, n);

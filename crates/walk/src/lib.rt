@@ -159,16 +159,8 @@ fn split(
     let mut second = *state;
     let x = Literal::new(p, true);
     let out = side::begin(index, state, work, x.code());
-    let a = settle_and_decide(
-        index,
-        state,
-        work,
-        memory,
-        out,
-        below(level, p, level.left - 1),
-        plan,
-        trail,
-    );
+    let lower = below(level, p, level.left - 1);
+    let a = settle_and_decide(index, state, work, memory, out, lower, plan, trail);
     let outcome = a.outcome;
     let Outcome::NoLayout = outcome else {
         return through(a, 1, x.opposite(), level.depth, trail);
@@ -176,16 +168,8 @@ fn split(
     let used = 1 + a.count;
     let held = memo::hold(memory, &second, p.0 as usize, level.variables, used);
     let taken = side::begin(index, &mut second, work, x.opposite().code());
-    let b = settle_and_decide(
-        index,
-        &mut second,
-        work,
-        memory,
-        taken,
-        below(level, p, level.left - used),
-        plan,
-        trail,
-    );
+    let rest = below(level, p, level.left - used);
+    let b = settle_and_decide(index, &mut second, work, memory, taken, rest, plan, trail);
     learn(memory, held, level.variables, b, used);
     through(b, used, x, level.depth, trail)
 }

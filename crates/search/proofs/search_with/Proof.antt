@@ -20,16 +20,19 @@ accepted c = sym (c .before .before .check-table .ensures) ∙ c .enum-told .giv
 
 returns : tie.Need-returns
 returns c =
-    let k = c .before .before .before in
-    call-refused _ _ _ _ _ _ (sym (k .check-table .ensures) ∙ c .before .checked .given .1)
+    let k = c .before .before .before .before in
+    rw (c .refused .ensures) (call-refused _ _ _ _ _ _ (sym (k .check-table .ensures) ∙ c .before .before .checked .given .1))
 
 returns-2 : tie.Need-returns-2
-returns-2 c = rw (c .new .ensures) (call-plan-short _ _ _ _ _ (accepted (c .before .before)) (c .before .if1 .taken))
+returns-2 c =
+    let t = c .before .before in
+    rw (c .refused2 .ensures, c .before .new .ensures) (call-plan-short _ _ _ _ _ (accepted (t .before)) (t .if1 .taken))
 
 returns-3 : tie.Need-returns-3
 returns-3 c =
-    let e = c .before .before in
-    rw (c .new2 .ensures) (call-trail-short _ _ _ _ _ (accepted (e .before)) (e .if1 .left) (c .before .if2 .taken))
+    let t = c .before .before in
+    let e = t .before in
+    rw (c .refused3 .ensures, c .before .new2 .ensures) (call-trail-short _ _ _ _ _ (accepted (e .before)) (e .if1 .left) (t .if2 .taken))
 
 begin-requires : tie.Need-begin-requires
 begin-requires c κs =
@@ -64,10 +67,13 @@ search-with-spec =
     (tie.spec
     (λ c κs. search needs)
     (λ c. search needs)
+    (λ c κs. search needs)
     returns
     (λ c. search needs)
     (λ c κs. search needs)
+    (λ c κs. search needs)
     returns-2
+    (λ c κs. search needs)
     (λ c κs. search needs)
     returns-3
     (λ c κs. search needs)

@@ -186,7 +186,7 @@ first-walk : (t : ℕ) (f : FirstWalked t) →
     treeWalk (under (a .p .0) (a .level .left - 1) (a .level)) (formulaOf (now (a .index))) (assign (Pos (a .p .0)) FALSE (stateIn (now (a .state)))) (now (a .plan)) (now (a .trail))
 first-walk t f =
     let g = first t f in
-    rw (f .before .before .before .below .ensures) at (f .settle-and-decide .ensures .0) ∙
+    rw (f .before .before .before .before .before .before .below .ensures) at (f .settle-and-decide .ensures .0) ∙
     side-walk (origin t f .pre .1 .0) _ FALSE refl (first-is t g) (g .begin .last .1 .0) (g .begin .last .1 .1 .0) (g .begin .result) (g .begin .ensures) _ _ _
 
 first-count : (t : ℕ) (f : FirstWalked t) → f .settle-and-decide .result .count + 1 ≤ origin t f .args .level .left
@@ -206,19 +206,19 @@ second-walk : (t : ℕ) (b : SecondWalked t) →
     (f .settle-and-decide .last .1 .1 .1 .1 .1 .1 .0) (f .settle-and-decide .last .1 .1 .1 .1 .1 .1 .1 .0)
 second-walk t b =
     let g = second t b in
-    rw (b .before .before .before .below2 .ensures) at (b .settle-and-decide2 .ensures .0) ∙
+    rw (b .before .before .before .before .before .before .below2 .ensures) at (b .settle-and-decide2 .ensures .0) ∙
     side-walk (origin t (earlier t b) .pre .1 .0) _ TRUE refl (second-is t g) (g .begin2 .last .1 .0) (g .begin2 .last .1 .1 .0) (g .begin2 .result) (g .begin2 .ensures) _ _ _
 
 -- the memo, up to the end of the first side
 first-remembered : (t : ℕ) (f : FirstWalked t) →
     let a = origin t f .args in Remembered (a .level .variables) (formulaOf (now (a .index))) (now (a .memory)) (f .settle-and-decide .last .1 .1 .1 .0)
 first-remembered t f =
-    remembered-trans (counted t (first t f)) (rw (f .before .before .before .below .ensures) at (f .settle-and-decide .ensures .1 .1))
+    remembered-trans (counted t (first t f)) (rw (f .before .before .before .before .before .before .below .ensures) at (f .settle-and-decide .ensures .1 .1))
 
 -- and of the second
 second-remembered : (t : ℕ) (b : SecondWalked t) →
     let a = origin t (earlier t b) .args in Remembered (a .level .variables) (formulaOf (now (a .index))) (holds t (second t b) .hold .last .0) (b .settle-and-decide2 .last .1 .1 .1 .0)
-second-remembered t b = rw (b .before .before .before .below2 .ensures) at (b .settle-and-decide2 .ensures .1 .1)
+second-remembered t b = rw (b .before .before .before .before .before .before .below2 .ensures) at (b .settle-and-decide2 .ensures .1 .1)
 
 -- the splits of both sides are within the allowance
 side-fits : (t : ℕ) (b : SecondWalked t) → Fits w32 (1 + earlier t b .settle-and-decide .result .count + b .settle-and-decide2 .result .count)
@@ -333,8 +333,8 @@ pub +settle-and-decide+split-spec : {M : Type 1} → statement M
     (λ c κs. search needs)
     (λ c κs. let k = c .before .before .before .before .before .before .before .before .before .pre .1 .0 in omega (arith, ap var (c .before .before .new .ensures), branch-open k .inside, k .lasting .small))
     (λ c κs. let k = c .before .before .before .before .before .before .before .before .before .before .pre .1 .0 in side-siding (k .calm) (k .lasting .small) (k .well) (branch-open k) _ (omega (arith, c .code .ensures ∙ ap codeOf (c .before .before .before .new .ensures))) _ (k .whole))
-    (λ c. omega (arith, c .before .before .before .before .before .before .before .before .before .before .before .before .if1 .left))
-    (λ c κs. let k = c .before .before .before .before .before .before .before .before .before .before .before .before .before .before .before .pre .1 .0 in omega (arith, side-deep k, k .lasting .small))
+    (λ c. omega (arith, c .before .before .before .before .before .before .before .before .before .if1 .left))
+    (λ c κs. let k = start t (c .before) .pre .1 .0 in omega (arith, side-deep k, k .lasting .small))
     (λ c κs.
     let g = c .before .before .before .before .before .before .before in
     let s = start t g in
@@ -342,7 +342,7 @@ pub +settle-and-decide+split-spec : {M : Type 1} → statement M
     let r = g .begin .result in
     let st = g .begin .last .1 .0 in
     let wk = g .begin .last .1 .1 .0 in
-    rw (c .before .before .below .ensures) (
+    rw (c .before .before .before .before .before .below .ensures) (
       omega (arith, side-falls (k .calm) (k .lasting .small) (k .well) (branch-open k) _ FALSE refl (first-is t g) st wk r (g .begin .ensures), s .pre .0),
       (side-walkable k _ FALSE refl (first-is t g) st wk r (g .begin .ensures) _ _ _ refl refl, counted t g .remembering),
     ))
@@ -370,8 +370,8 @@ pub +settle-and-decide+split-spec : {M : Type 1} → statement M
     (λ c κs. search needs)
     (λ c κs. let f = c .before .before .before .before .before .before .before .before .before .before .before .before .before in let k = origin t f .pre .1 .0 in omega (arith, ap var (c .opposite2 .ensures ∙ ap opposite (made t (first t f))), branch-open k .inside, k .lasting .small))
     (λ c κs. let f = c .before .before .before .before .before .before .before .before .before .before .before .before .before .before in let k = origin t f .pre .1 .0 in side-siding (k .calm) (k .lasting .small) (k .well) (branch-open k) _ (omega (arith, c .code2 .ensures ∙ ap codeOf (c .before .opposite2 .ensures ∙ ap opposite (made t (first t f))))) _ (f .settle-and-decide .ensures .1 .0))
-    (λ c. omega (arith, first-count t (c .before .before .before .before .before .before .before .before .before .before .before .before .before .before .before .before .before .before .before)))
-    (λ c κs. let k = origin t (before t (c .before .before .before .before)) .pre .1 .0 in omega (arith, side-deep k, k .lasting .small))
+    (λ c. omega (arith, first-count t (before t (c .before))))
+    (λ c κs. let k = origin t (before t (c .before)) .pre .1 .0 in omega (arith, side-deep k, k .lasting .small))
     (λ c κs.
     let g = c .before .before .before .before .before .before .before in
     let f = before t g in
@@ -380,7 +380,7 @@ pub +settle-and-decide+split-spec : {M : Type 1} → statement M
     let r = g .begin2 .result in
     let st = g .begin2 .last .1 .0 in
     let wk = g .begin2 .last .1 .1 .0 in
-    rw (c .before .before .below2 .ensures) (
+    rw (c .before .before .before .before .before .below2 .ensures) (
       omega (arith, side-falls (k .calm) (k .lasting .small) (k .well) (branch-open k) _ TRUE refl (second-is t g) st wk r (g .begin2 .ensures), s .pre .0),
       (
         side-walkable k _ TRUE refl (second-is t g) st wk r (g .begin2 .ensures) _ _ _ (f .settle-and-decide .kept .1 .1 .1 .1 .1 .1 .0) (f .settle-and-decide .kept .1 .1 .1 .1 .1 .1 .1 .0),
