@@ -17,7 +17,7 @@ use Rattle.tally.specs.Tally.{tallyOf, stateIn, valueIn}
 use Rattle.moves.specs.Sound.{Sound}
 use Rattle.theory.proofs.States.{value-variable}
 use Rattle.gather.proofs.Written.{stands-for}
-use Rattle.pairs.proofs.Reading.{rest-none, rest-cons}
+use Rattle.meet.proofs.Reading.{rest-none, rest-cons}
 use Rattle.engine.specs.Reading.{Legible, written, rest, Opens, FirstOpen, OpenCode}
 
 pub legible : {ix st wk : List ℕ} → Sound ix st wk → Legible ix st

@@ -27,7 +27,7 @@ use Rattle.moves.proofs.Moves.{noting-trans}
 use Rattle.moves.proofs.Listed.{carried-fell, blocks-fell, listed-carried}
 use Rattle.engine.specs.Short.{Units, Resting}
 use Rattle.engine.specs.Ready.{Ready}
-use Rattle.pairs.specs.Looking.{Lookable, LookedAt}
+use Rattle.meet.specs.Looking.{Lookable, LookedAt}
 use Rattle.tie.specs.Tying.{Tying, Tieable, Tied}
 use Rattle.engine.specs.declared.Next.{Next}
 use Rattle.engine.specs.declared.Next.the-variants.{DeadEnd, From}

@@ -14,12 +14,12 @@ use Rattle.notes.specs.Notes.{Whole}
 use Rattle.moves.specs.Stepping.{Died}
 use Rattle.moves.proofs.Dying.{died-after}
 use Rattle.pairs.specs.declared.Range.{Range}
-use Rattle.pairs.specs.Looking.{Looking}
-use Rattle.pairs.specs.Places.{numberAt, clauseAt, Comparing}
+use Rattle.meet.specs.Looking.{Looking}
+use Rattle.meet.specs.Places.{numberAt, clauseAt, Comparing, RowOf}
 use Rattle.pairs.specs.Seen.{Seeing, SeenAll, MayMeet, FirstRow}
-use Rattle.pairs.specs.Sides.{RowOf, Facing, FacingOf, Chunkable, NextRow}
-use Rattle.pairs.proofs.Looking.{looking-as, looking-none, looking-then}
-use Rattle.pairs.proofs.Rows.{clause-carried, placed-carried, placed-within}
+use Rattle.pairs.specs.Sides.{Facing, FacingOf, Chunkable, NextRow}
+use Rattle.meet.proofs.Looking.{looking-as, looking-none, looking-then}
+use Rattle.meet.proofs.Rows.{clause-carried, placed-carried, placed-within}
 
 -- the next row ------------------------------------------------------------------------------------------------------
 

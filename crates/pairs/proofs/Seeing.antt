@@ -16,10 +16,10 @@ use Rattle.theory.proofs.Clauses.{standing-mem}
 use Rattle.theory.proofs.Asks.{standing-no-false}
 use Rattle.occurrences.specs.Index.{Indexed, clauseCount, clauseOf, codeAt, startAt}
 use Rattle.tally.specs.Tally.{stateIn}
-use Rattle.pairs.specs.Places.{numberAt, clauseAt}
+use Rattle.meet.specs.Places.{numberAt, clauseAt}
 use Rattle.pairs.specs.Seen.{chunkSize, Seen, IsSeen, SeenIn, Seeable, SeenBy, Seeing, SeenAll}
-use Rattle.pairs.proofs.Clauses.{wide-open, code-high}
-use Rattle.pairs.proofs.Reading.{Reads, reads-begin, reads-go, value-low}
+use Rattle.meet.proofs.Clauses.{wide-open, code-high}
+use Rattle.meet.proofs.Reading.{Reads, reads-begin, reads-go, value-low}
 
 -- what the literal at place j stands for, by code
 abbrev pub valueAt : List ℕ → List ℕ → ℕ → ℕ

@@ -1,10 +1,9 @@
 -- The two sides of a block are gathered, and the look goes over their pairs.
-use mathlib.Core.Path.{_≡_, refl, ap, sym, _∙_}
+use mathlib.Core.Path.{_≡_, ap, sym, _∙_}
 use mathlib.Core.Bool.{Bool, true, false}
-use mathlib.Core.Logic.{_≢_, inl, inr, ⊎-elim}
+use mathlib.Core.Logic.{_≢_, ⊎-elim}
 use mathlib.Core.List.{List, _∷_, List·Memᴰ}
 use Prim.Native.Nat.{ℕ, _+_, _*_, _<_, _≤_}
-use native.Mathlib.Decide.{decLt}
 use native.Mathlib.Omega.{arith}
 use Rattle.general.specs.Times.{times}
 use Rattle.literal.specs.declared.Literal.{Literal}
@@ -13,26 +12,24 @@ use Rattle.theory.specs.Formula.{Clause}
 use Rattle.theory.specs.State.{standing}
 use Rattle.theory.proofs.Clauses.{mem-occurs}
 use Rattle.theory.proofs.Counts.{Wide}
-use Rattle.theory.proofs.Paired.{looked-by, looked-then}
+use Rattle.theory.proofs.Paired.{looked-by}
 use Rattle.occurrences.specs.Index.{clauseOf, formulaOf, occurrences, width}
 use Rattle.occurrences.proofs.Formulas.{formula-mem}
 use Rattle.tally.specs.Tally.{tallyOf, stateIn}
 use Rattle.tally.specs.Stretch.{Stretch, Reaches}
 use Rattle.tally.specs.Block.{Sides}
 use Rattle.notes.specs.declared.Block.{Block}
-use Rattle.notes.specs.Notes.{Whole, nearFrom, farFrom}
+use Rattle.notes.specs.Notes.{nearFrom, farFrom}
 use Rattle.moves.specs.Listing.{ListsIn, SpansIn}
-use Rattle.moves.specs.Stepping.{Died}
-use Rattle.moves.proofs.Dying.{died-after}
 use Rattle.gather.specs.declared.Sign.{Sign}
 use Rattle.gather.specs.Gathering.{isSigned, Beside, Collecting, Collected, Gatherable, GatheredAlong}
 use Rattle.gather.proofs.Collects.{beside-trans}
 use Rattle.gather.proofs.Written.{wide-in}
-use Rattle.pairs.specs.Looking.{Lookable, LookOf, Looking}
-use Rattle.pairs.specs.Places.{Placed}
+use Rattle.meet.specs.Looking.{Lookable, LookOf}
+use Rattle.meet.specs.Places.{Among}
 use Rattle.pairs.specs.declared.Range.{Range}
-use Rattle.pairs.specs.Sides.{Among, FacingOf, Chunkable, nearSide, farSide, SideOf}
-use Rattle.pairs.proofs.Looking.{looked-at-as, looking-as, looking-none, looking-then, lookable-beside, looked-beside}
+use Rattle.pairs.specs.Sides.{FacingOf, Chunkable, nearSide, farSide, SideOf}
+use Rattle.meet.proofs.Looking.{looked-at-as, looking-none, lookable-beside, looked-beside}
 
 -- gathering ---------------------------------------------------------------------------------------------------------
 

@@ -19,7 +19,7 @@ use Rattle.theory.proofs.Pairs.{Meets}
 use Rattle.occurrences.specs.Index.{clauseOf, startAt}
 use Rattle.tally.specs.Tally.{stateIn}
 use Rattle.pairs.specs.Seen.{Seen, SeenIn, Seeable, MayMeet}
-use Rattle.pairs.proofs.Reading.{Reads, reads-begin, reads-go, value-low}
+use Rattle.meet.proofs.Reading.{Reads, reads-begin, reads-go, value-low}
 use Rattle.pairs.proofs.Seeing.{valueAt, standing-placed}
 
 -- where the opposite of the literal with code x stands, and where it or its opposite does

@@ -13,7 +13,7 @@ use Rattle.theory.proofs.Paired.{Meet}
 use Rattle.occurrences.specs.Index.{Indexed, clauseCount, clauseOf}
 use Rattle.tally.specs.Tally.{tallyOf, stateIn}
 use Rattle.tally.specs.Ring.{Classes}
-use Rattle.pairs.specs.Places.{numberAt, clauseAt, Placed}
+use Rattle.meet.specs.Places.{numberAt, clauseAt, Placed}
 
 -- as many clauses as are seen at once
 abbrev pub chunkSize : ℕ

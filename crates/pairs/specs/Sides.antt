@@ -1,4 +1,4 @@
--- A look at pairs of clauses that were gathered: one with some, some with some, and the two sides of a block.
+-- A look at pairs of clauses that were gathered: some with some others, and the two sides of a block.
 use mathlib.Core.Path.{_≡_}
 use mathlib.Core.Bool.{Bool}
 use mathlib.Core.List.{List}
@@ -13,19 +13,8 @@ use Rattle.notes.specs.Notes.{notesOf, Gathered}
 use Rattle.moves.specs.Listing.{ListsIn}
 use Rattle.gather.specs.Gathering.{WideIn, Beside}
 use Rattle.pairs.specs.declared.Range.{Range}
-use Rattle.pairs.specs.Looking.{Lookable, LookingOf}
-use Rattle.pairs.specs.Places.{numberAt, clauseAt, Placed, Unmet}
-
--- c is at a place from a to b
-abbrev pub Among : (ix wk : List ℕ) → ℕ → ℕ → Clause → Type 0
-Among ix wk a b c = (i : ℕ) × (a ≤ i) × (i < b) × (c ≡ clauseAt ix wk i)
-
--- clause g, with those from a to b
-abbrev pub Row : (ix wk : List ℕ) → (g a b : ℕ) → Relation
-Row ix wk g a b c d = (c ≡ clauseOf ix g) × Among ix wk a b d
-
-abbrev pub RowOf : (ix st wk : List ℕ) → (g a b : ℕ) → (st′ wk′ : List ℕ) → Bool → Type 0
-RowOf ix st wk g a b = LookingOf (Row ix wk g a b) ix st wk
+use Rattle.meet.specs.Looking.{Lookable, LookingOf}
+use Rattle.meet.specs.Places.{numberAt, Placed, Unmet, Among}
 
 -- those from a to b, with those from c to d
 abbrev pub Facing : (ix wk : List ℕ) → (a b c d : ℕ) → Relation

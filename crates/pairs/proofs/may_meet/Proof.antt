@@ -6,7 +6,7 @@ use native.Mathlib.Omega.{arith}
 use lib.Bits.{bitOr}
 use lib.ListN.{getD}
 use Rattle.literal.specs.Literal.{codes}
-use Rattle.pairs.proofs.Reading.{start-ends, place-inside, code-known}
+use Rattle.meet.proofs.Reading.{start-ends, place-inside, code-known}
 use Rattle.pairs.proofs.Touching.{Touches, opposite-low, touches-begin, touches-low, touches-go, touches-end}
 use Rattle.pairs.proofs.may_meet.Statement.{statement}
 use Rattle.pairs.proofs.may_meet.Tie as tie

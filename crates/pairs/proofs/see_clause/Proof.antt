@@ -2,7 +2,7 @@
 use Prim.Native.Nat.{_-_, _<_}
 use native.Mathlib.Omega.{arith}
 use Rattle.literal.specs.Literal.{codes}
-use Rattle.pairs.proofs.Reading.{start-ends, place-inside, code-known}
+use Rattle.meet.proofs.Reading.{start-ends, place-inside, code-known}
 use Rattle.pairs.proofs.Seeing.{Sees, sees-begin, sees-low, sees-go, sees-end}
 use Rattle.pairs.proofs.see_clause.Statement.{statement}
 use Rattle.pairs.proofs.see_clause.Tie as tie
