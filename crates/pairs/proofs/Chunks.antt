@@ -37,10 +37,10 @@ row-more {ix} {st} {wk} {seen} {i = i} o more g is set m z = record {
 
 module _ {ix st wk : List ℕ} {rows chunk : Range} (c : Chunkable ix st wk rows chunk) where
   pub chunk-seeing : Seeing ix st wk (chunk .from) (chunk .to)
-  chunk-seeing = record { index = c .lookable .sound .index; classes = c .lookable .sound .classes; placed = c .chunk }
+  chunk-seeing = record { index = c .lookable .sound .index; exact = c .lookable .sound .exact; classes = c .lookable .sound .classes; placed = c .chunk }
 
   pub rows-seeing : Seeing ix st wk (rows .from) (rows .to)
-  rows-seeing = record { index = c .lookable .sound .index; classes = c .lookable .sound .classes; placed = c .placed }
+  rows-seeing = record { index = c .lookable .sound .index; exact = c .lookable .sound .exact; classes = c .lookable .sound .classes; placed = c .placed }
 
   -- at once
   pub next-alone : NextRow ix st wk rows chunk (rows .from)

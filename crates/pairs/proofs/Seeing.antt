@@ -1,5 +1,5 @@
 -- Seeing the literals of a clause, and of those of a chunk: what holds at the loop's head, at the start, after a turn and at the end.
-use mathlib.Core.Path.{_≡_, ap, sym, _∙_}
+use mathlib.Core.Path.{_≡_, ap, sym, subst, _∙_}
 use mathlib.Core.List.{List, List·Memᴰ}
 use Prim.Native.Nat.{ℕ, _+_, _-_, _%_, _≤_, _<_}
 use native.Mathlib.Decide.{ℕ-discrete as decEq}
@@ -7,18 +7,22 @@ use native.Mathlib.Omega.{arith}
 use lib.Bits.{bitOr}
 use lib.ListN.{getD, set, replicate, length-set, length-replicate}
 use lib.Seq.{getD-set-same, getD-set-other}
+use Rattle.general.specs.Booleans.{bit}
 use Rattle.general.specs.Lists.{from-mem}
 use Rattle.general.specs.Sets.{Has, has-or-left, has-or-right}
 use Rattle.literal.specs.declared.Literal.{Literal}
 use Rattle.literal.specs.Literal.{codeOf, literalAt, codes}
 use Rattle.theory.specs.State.{value, standing}
+use Rattle.theory.proofs.Counts.{Wide}
 use Rattle.theory.proofs.Clauses.{standing-mem}
 use Rattle.theory.proofs.Asks.{standing-no-false}
 use Rattle.occurrences.specs.Index.{Indexed, clauseCount, clauseOf, codeAt, startAt}
-use Rattle.tally.specs.Tally.{stateIn}
+use Rattle.tally.specs.Tally.{stateIn, countIn}
+use Rattle.gather.specs.Gathering.{isWide}
 use Rattle.meet.specs.Places.{numberAt, clauseAt}
 use Rattle.pairs.specs.Seen.{chunkSize, Seen, IsSeen, SeenIn, Seeable, SeenBy, Seeing, SeenAll}
 use Rattle.meet.proofs.Clauses.{wide-open, code-high}
+use Rattle.meet.proofs.Widths.{not-wide}
 use Rattle.meet.proofs.Reading.{Reads, reads-begin, reads-go, value-low}
 
 -- what the literal at place j stands for, by code
@@ -32,6 +36,11 @@ standing-placed {ix} st index g h y m =
     let w = standing-mem (stateIn st) (clauseOf ix g) y m in
     let j = from-mem (λ i. literalAt (codeAt ix i)) (startAt ix g) _ (w .written) (w .member) in
     (j .0, j .1, omega (arith, j .2, index .starts g h), ap (λ (l : Literal). codeOf (value (stateIn st) l)) (sym (j .3)) ∙ ap codeOf (w .valued))
+
+-- a clause that is not wide is passed over
+pub sees-narrow : {ix st seen : List ℕ} {g : ℕ} (set : ℕ) → Seeable ix st g → Seen seen → (x m : ℕ) → x ≡ countIn st g → m ≡ bit (isWide x) → m ≡ 0 → SeenBy ix st seen g set seen
+sees-narrow {ix} {st} {g = g} set k s x m counts tested z =
+    record { whole = s; kept = λ k x h. h; all = λ w. absurd (not-wide ix st (k .index) (k .exact) g (k .inside) x m counts tested z w) }
 
 -- one literal more
 abbrev pub withSeen : List ℕ → ℕ → ℕ → List ℕ
@@ -92,7 +101,7 @@ module _ {ix st seen : List ℕ} {g w start end : ℕ} {seen′ : List ℕ} {i :
   sees-end h = record {
     whole = o .whole;
     kept = o .kept;
-    all = λ k b y m.
+    all = λ w k b y m.
         let j = standing-placed st (o .seeable .index) g (o .seeable .inside) y m in
         rw (j .3) at (o .done k b (j .0) (omega (arith, j .1, o .reads .begins)) (omega (arith, j .2, o .reads .ends)));
   }
@@ -102,7 +111,7 @@ pub record SeesAll (ix st wk : List ℕ) (a b : ℕ) (seen : List ℕ) (i : ℕ)
   pub seeing : Seeing ix st wk a b
   pub whole : Seen seen
   pub from : a ≤ i
-  pub done : (j : ℕ) → a ≤ j → j < i → SeenIn st seen (j % chunkSize) (clauseAt ix wk j)
+  pub done : (j : ℕ) → a ≤ j → j < i → Wide (standing (stateIn st) (clauseAt ix wk j)) → SeenIn st seen (j % chunkSize) (clauseAt ix wk j)
 
 pub sees-all-begin : {ix st wk : List ℕ} {a b : ℕ} → Seeing ix st wk a b → SeesAll ix st wk a b (replicate codes 0) a
 sees-all-begin k = record { seeing = k; whole = length-replicate {A = ℕ} codes 0; from = omega arith; done = λ j a b. absurd (omega arith) }
@@ -110,16 +119,19 @@ sees-all-begin k = record { seeing = k; whole = length-replicate {A = ℕ} codes
 module _ {ix st wk : List ℕ} {a b : ℕ} {seen : List ℕ} {i : ℕ} (o : SeesAll ix st wk a b seen i) where
   module _ (more : i < b) (g : ℕ) (is : g ≡ numberAt wk i) where
     pub sees-all-ask : Seeable ix st g
-    sees-all-ask = record { index = o .seeing .index; classes = o .seeing .classes; inside = rw is (o .seeing .placed .inside i (o .from) more) }
+    sees-all-ask = record { index = o .seeing .index; exact = o .seeing .exact; classes = o .seeing .classes; inside = rw is (o .seeing .placed .inside i (o .from) more) }
 
     pub sees-all-go : {w : ℕ} → Has w (i % chunkSize) → {seen′ : List ℕ} → SeenBy ix st seen g w seen′ → SeesAll ix st wk a b seen′ (i + 1)
-    sees-all-go one s = record {
+    sees-all-go {w} one {seen′} s = record {
       seeing = o .seeing;
       whole = s .whole;
       from = omega (arith, o .from);
       done = λ j f h. elim (decEq j i) [
-        | yes e ↦ rw (e, ← is) (s .all (i % chunkSize) one)
-        | no e ↦ λ y m. s .kept (j % chunkSize) (codeOf y) (o .done j f (omega arith) y m)
+        | yes e ↦ subst
+            (λ (x : ℕ). Wide (standing (stateIn st) (clauseAt ix wk x)) → SeenIn st seen′ (x % chunkSize) (clauseAt ix wk x))
+            (sym e)
+            (subst (λ (x : ℕ). Wide (standing (stateIn st) (clauseOf ix x)) → SeenIn st seen′ (i % chunkSize) (clauseOf ix x)) is (λ w. s .all w (i % chunkSize) one))
+        | no e ↦ λ w y m. s .kept (j % chunkSize) (codeOf y) (o .done j f (omega arith) w y m)
       ];
     }
 
@@ -130,5 +142,5 @@ module _ {ix st wk : List ℕ} {a b : ℕ} {seen : List ℕ} {i : ℕ} (o : Sees
     all = λ j f l w y m.
         let high = code-high y (wide-open (standing-no-false (stateIn st) (clauseAt ix wk j)) w y m) in
         rw (getD-set-other (set seen 0 0) 1 (codeOf y) 0 0 (λ z. omega arith), getD-set-other seen 0 (codeOf y) 0 0 (λ z. omega arith))
-        (o .done j f (omega arith) y m);
+        (o .done j f (omega arith) w y m);
   }

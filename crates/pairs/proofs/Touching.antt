@@ -7,6 +7,7 @@ use native.Mathlib.Decide.{ℕ-discrete as decEq}
 use native.Mathlib.Omega.{arith}
 use lib.Bits.{bitAnd, bitOr}
 use lib.ListN.{getD}
+use Rattle.general.specs.Booleans.{bit}
 use Rattle.general.specs.Sets.{Has, has-or-left, has-or-right, has-and}
 use Rattle.literal.specs.declared.Literal.{Literal}
 use Rattle.literal.specs.Literal.{opposite, codeOf, literalAt, codes}
@@ -17,9 +18,11 @@ use Rattle.theory.proofs.Literals.{var-opposite}
 use Rattle.theory.proofs.Counts.{Wide}
 use Rattle.theory.proofs.Pairs.{Meets}
 use Rattle.occurrences.specs.Index.{clauseOf, startAt}
-use Rattle.tally.specs.Tally.{stateIn}
+use Rattle.tally.specs.Tally.{stateIn, countIn}
+use Rattle.gather.specs.Gathering.{isWide}
 use Rattle.pairs.specs.Seen.{Seen, SeenIn, Seeable, MayMeet}
 use Rattle.meet.proofs.Reading.{Reads, reads-begin, reads-go, value-low}
+use Rattle.meet.proofs.Widths.{not-wide}
 use Rattle.pairs.proofs.Seeing.{valueAt, standing-placed}
 
 -- where the opposite of the literal with code x stands, and where it or its opposite does
@@ -108,3 +111,7 @@ module _ {ix st seen : List ℕ} {g start end crossed once twice i : ℕ} (o : T
 
   pub touches-end : end ≤ i → MayMeet ix st seen g (bitAnd crossed twice)
   touches-end all k h s m = touches-both all k h s (m .meets)
+
+-- a clause that is not wide meets none
+pub touches-narrow : {ix st : List ℕ} (seen : List ℕ) {g : ℕ} → Seeable ix st g → (x m : ℕ) → x ≡ countIn st g → m ≡ bit (isWide x) → m ≡ 0 → MayMeet ix st seen g 0
+touches-narrow {ix} {st} seen {g} s x m counts tested z k h i e = absurd (not-wide ix st (s .index) (s .exact) g (s .inside) x m counts tested z (e .meets .both .0))

@@ -13,6 +13,7 @@ use Rattle.theory.proofs.Paired.{Meet}
 use Rattle.occurrences.specs.Index.{Indexed, clauseCount, clauseOf}
 use Rattle.tally.specs.Tally.{tallyOf, stateIn}
 use Rattle.tally.specs.Ring.{Classes}
+use Rattle.tally.specs.Counts.{Exact}
 use Rattle.meet.specs.Places.{numberAt, clauseAt, Placed}
 
 -- as many clauses as are seen at once
@@ -34,18 +35,20 @@ SeenIn st seen k c = (y : Literal) → List·Memᴰ y (standing (stateIn st) c) 
 -- clause g can be read
 pub record Seeable (ix st : List ℕ) (g : ℕ) : Type 0 where
   pub index : Indexed ix
+  pub exact : Exact ix (tallyOf st .values) (tallyOf st .counts)
   pub classes : Classes (tallyOf st .values) (tallyOf st .links)
   pub inside : g < clauseCount ix
 
--- its literals are seen as well, as those of every place of a set
+-- its literals are seen as well, if it is wide, as those of every place of a set
 pub record SeenBy (ix st seen : List ℕ) (g set : ℕ) (seen′ : List ℕ) : Type 0 where
   pub whole : Seen seen′
   pub kept : (k x : ℕ) → IsSeen seen k x → IsSeen seen′ k x
-  pub all : (k : ℕ) → Has set k → SeenIn st seen′ k (clauseOf ix g)
+  pub all : Wide (standing (stateIn st) (clauseOf ix g)) → (k : ℕ) → Has set k → SeenIn st seen′ k (clauseOf ix g)
 
 -- those from place a to b can
 pub record Seeing (ix st wk : List ℕ) (a b : ℕ) : Type 0 where
   pub index : Indexed ix
+  pub exact : Exact ix (tallyOf st .values) (tallyOf st .counts)
   pub classes : Classes (tallyOf st .values) (tallyOf st .links)
   pub placed : Placed ix wk a b
 

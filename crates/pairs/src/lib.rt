@@ -26,12 +26,15 @@ struct Range {
 // The set of those of a chunk in which a literal stands, by code: i % CHUNK for the clause gathered at place i.
 type Seen = [u8; Literal::CODES];
 
-// Sees the literals of clause g as those of a set.
+// Sees the literals of clause g, if it is wide, as those of a set.
 fn see_clause(index: &Index, state: &Tally, seen: &mut Seen, g: usize, set: u8)
     requires { ⌜ Seeable (now index) (now state) g ⌝ }
     requires { ⌜ Seen (now seen) ⌝ }
     ensures { λ _. ⌜ SeenBy (now (index .entry)) (now (state .entry)) (now (seen .entry)) g set (now (seen .exit)) ⌝ }
 {
+    if gather::wide(tally::count_of(state, g)) == 0 {
+        return;
+    }
     let start = occurrences::start_of(index, g);
     let end = occurrences::end_of(index, g);
     for i in start..end {
@@ -62,6 +65,9 @@ fn may_meet(index: &Index, state: &Tally, seen: &Seen, g: usize) -> u8
     requires { ⌜ Seen (now seen) ⌝ }
     ensures { λ r. ⌜ MayMeet (now (index .entry)) (now (state .entry)) (now (seen .entry)) g r ⌝ }
 {
+    if gather::wide(tally::count_of(state, g)) == 0 {
+        return 0;
+    }
     let mut crossed: u8 = 0;
     let mut once: u8 = 0;
     let mut twice: u8 = 0;

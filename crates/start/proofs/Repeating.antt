@@ -1,20 +1,21 @@
 -- Occurrences of which each is in a later clause than the one before: a variable that stands twice in no clause.
-use mathlib.Core.Path.{_≡_}
+use mathlib.Core.Path.{_≡_, ap, sym, _∙_}
 use mathlib.Core.List.{List}
-use Prim.Native.Nat.{ℕ, suc, _+_, _*_, _/_, _≤_, _<_}
+use Prim.Native.Nat.{ℕ, zero, suc, _+_, _-_, _*_, _/_, _≤_, _<_}
 use native.Mathlib.Decide.{ℕ-discrete as decEq}
 use native.Mathlib.Omega.{arith}
 use borrow.Author.Tests.{eq-eqb, ne-eqb}
 use lib.Dec.{eqb}
-use Rattle.general.specs.Booleans.{bit-not}
+use Rattle.general.specs.Booleans.{bit, bit-not}
 use Rattle.general.specs.Lists.{from}
 use Rattle.general.specs.Times.{times, times-snoc}
 use Rattle.literal.specs.declared.Literal.the-variants.{Pos, Neg}
-use Rattle.literal.specs.Literal.{maxVariables}
+use Rattle.literal.specs.Literal.{literalAt, maxVariables}
 use Rattle.literal.proofs.Codes.{literalAt-codeOf}
+use Rattle.theory.specs.Rules.{occurs}
 use Rattle.theory.proofs.Counts.{mentions-occurs}
-use Rattle.occurrences.specs.Index.{Indexed, clauseOf, firstAt, occurrenceAt, width}
-use Rattle.start.specs.Undoubling.{WrittenOnce}
+use Rattle.occurrences.specs.Index.{Indexed, clauseCount, clauseOf, firstAt, occurrenceAt, width}
+use Rattle.start.specs.Undoubling.{WrittenOnce, DoubledAt}
 
 module _ (f : ℕ → ℕ) (a : ℕ) where
   -- how many of the n occurrences from a on are in clause g
@@ -56,3 +57,27 @@ rising-once {ix} {p} index h r g b =
     let plus = rw (z, e, literalAt-codeOf (Pos p)) at (index .each p g 0 h b (omega arith)) in
     let minus = rw (literalAt-codeOf (Neg p)) at (index .each p g 1 h b (omega arith)) in
     omega (arith, mentions-occurs (Pos p) (clauseOf ix g), plus, minus, r .once g)
+
+-- equal occurrences one after the other: a literal that stands twice in a clause
+times-one : (f : ℕ → ℕ) (x k n i : ℕ) → k ≤ i → i < k + n → f i ≡ x → 1 ≤ times x (from f k n)
+unfolding from times
+times-one f x k zero i a b e = absurd (omega arith)
+times-one f x k (suc n) i a b e = elim (decEq k i) [
+  | yes q ↦ rw (q, eq-eqb (f i) x e) (omega arith)
+  | no q ↦ omega (arith, times-one f x (suc k) n i (omega arith) (omega arith) e)
+]
+
+times-two : (f : ℕ → ℕ) (x k n i : ℕ) → k ≤ i → i + 1 < k + n → f i ≡ x → f (i + 1) ≡ x → 2 ≤ times x (from f k n)
+unfolding from times
+times-two f x k zero i a b e h = absurd (omega arith)
+times-two f x k (suc n) i a b e h = elim (decEq k i) [
+  | yes q ↦ omega (arith, ap bit (eq-eqb (f k) x (ap f q ∙ e)), times-one f x (suc k) n (i + 1) (omega arith) (omega arith) h)
+  | no q ↦ omega (arith, times-two f x (suc k) n i (omega arith) (omega arith) e h)
+]
+
+pub doubled-twice : {ix : List ℕ} {p j : ℕ} → Indexed ix → p ≤ maxVariables → DoubledAt ix p j → (g k : ℕ) → g < clauseCount ix → k < 2 → occurrenceAt ix j ≡ 2 * g + k →
+    2 ≤ occurs (literalAt (2 * p + k)) (clauseOf ix g)
+doubled-twice {ix} {p} {j} index h d g k b l e =
+    let z : j - 1 + 1 ≡ j = omega (arith, d .after) in
+    rw (index .each p g k h b l) at (times-two (occurrenceAt ix) (2 * g + k) (firstAt ix p) (width ix p) (j - 1)
+    (omega (arith, d .after)) (omega (arith, d .after, d .before)) (sym (d .same) ∙ e) (ap (occurrenceAt ix) z ∙ e))

@@ -12,7 +12,7 @@ ghost use Rattle.notes.specs.Notes.{notesOf, withBlocksEnd, Whole};
 ghost use Rattle.undouble.specs.Doubling.{DoublesOf};
 ghost use Rattle.start.specs.Opening.{OpenBelow};
 ghost use Rattle.start.specs.Counting.{CountsOf};
-ghost use Rattle.start.specs.Undoubling.{Undoubling, WrittenOnce, UndoubledOf};
+ghost use Rattle.start.specs.Undoubling.{Undoubling, WrittenOnce, DoubledAt, UndoubledOf};
 ghost use Rattle.start.specs.Signs.{signsBlock, SignsOf, ListedBelow, Listing};
 ghost use Rattle.start.specs.Starting.{StartOf};
 use literal::Literal;
@@ -94,7 +94,33 @@ fn repeats(index: &Index, p: usize) -> bool
     false
 }
 
-// Rules 4 and 5 for variable r where it stands twice in a clause, unless it was decided meanwhile.
+// 0 for an occurrence that is positive, 1 for one that is negative.
+fn sign_at(index: &Index, j: usize) -> u16
+    requires { ⌜ j < maxLiterals ⌝ }
+    ensures { λ r. ⌜ r ≡ occurrenceAt (now (index .entry)) j % 2 ⌝ }
+{
+    occurrences::occurrence_at(index, j) % 2
+}
+
+// The second of two places, one after the other, at which variable p has the same occurrence, so that a literal of it stands twice in a clause; 0 where
+// there are none.
+fn doubled(index: &Index, p: usize) -> usize
+    requires { ⌜ Indexed (now index) ⌝ }
+    requires { ⌜ p ≤ maxVariables ⌝ }
+    ensures { λ j. ⌜ (0 < j → DoubledAt (now (index .entry)) p j) ⌝ }
+{
+    let first = occurrences::first_of(index, p);
+    let last = occurrences::first_of(index, p + 1);
+    for j in first + 1..last {
+        if occurrences::occurrence_at(index, j) == occurrences::occurrence_at(index, j - 1) {
+            return j;
+        }
+    }
+    0
+}
+
+// Rules 4 and 5 for variable r where it stands twice in a clause, unless it was decided meanwhile. Where its occurrences show that a literal does, no clause
+// is read.
 fn undouble_at(index: &Index, state: &mut Tally, work: &mut Notes, r: u16) -> bool
     requires { ⌜ Undoubling (now index) (now state) (now work) ⌝ }
     requires { ⌜ 0 < r ⌝ }
@@ -104,11 +130,14 @@ fn undouble_at(index: &Index, state: &mut Tally, work: &mut Notes, r: u16) -> bo
     if !repeats(index, r as usize) {
         return false;
     }
-    if tally::value_of(state, r as usize) == 2 * r {
-        undouble::doubles_at(index, state, work, r)
-    } else {
-        false
+    if tally::value_of(state, r as usize) != 2 * r {
+        return false;
     }
+    let j = doubled(index, r as usize);
+    if j != 0 {
+        return decide::decide(index, state, work, 2 * r + sign_at(index, j));
+    }
+    undouble::doubles_at(index, state, work, r)
 }
 
 // Rules 4 and 5 for each variable in turn.
@@ -122,14 +151,6 @@ fn undouble_all(index: &Index, state: &mut Tally, work: &mut Notes) -> bool
         }
     }
     false
-}
-
-// 0 for an occurrence that is positive, 1 for one that is negative.
-fn sign_at(index: &Index, j: usize) -> u16
-    requires { ⌜ j < maxLiterals ⌝ }
-    ensures { λ r. ⌜ r ≡ occurrenceAt (now (index .entry)) j % 2 ⌝ }
-{
-    occurrences::occurrence_at(index, j) % 2
 }
 
 // Whether variable p occurs with both signs.

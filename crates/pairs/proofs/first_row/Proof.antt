@@ -20,7 +20,7 @@ may-meet-requires : tie.Need-may-meet-requires Inv-loop μ-loop
 may-meet-requires c κs =
     let t = c .before in
     let p = t .before .before .pre in
-    (record { index = p .0 .index; classes = p .0 .classes; inside = rw (c .gathered-at .ensures) (p .0 .placed .inside _ (t .before .loop .inv .from) (t .loop-test .taken)) }, p .1 .1)
+    (record { index = p .0 .index; exact = p .0 .exact; classes = p .0 .classes; inside = rw (c .gathered-at .ensures) (p .0 .placed .inside _ (t .before .loop .inv .from) (t .loop-test .taken)) }, p .1 .1)
 
 loop-again : tie.Need-loop-again Inv-loop μ-loop
 loop-again c =
