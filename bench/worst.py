@@ -107,6 +107,11 @@ def named(groups):
     return len(used), [[number[e] if e > 0 else -number[-e] for e in g] for g in groups]
 
 
+def doubled(groups, n, times, shift):
+    """Long groups in which every placement stands several times, in one after the other only some of them."""
+    return named([[1 + (p + g * shift) % n for p in range(n) for _ in range(times)] for g in range(groups)])
+
+
 BOTH = (0, 1)
 FAMILIES = {
     "falling": (filings.falling, [(1, 4), (2, 125), (1, 400), BOTH]),
@@ -119,6 +124,7 @@ FAMILIES = {
     "crosswise": (crosswise, [(2, 255), (4, 130), BOTH, BOTH]),
     "matched": (matched, [(2, 100), (4, 130), BOTH, BOTH]),
     "sunk": (sunk, [(2, 255), (1, 400), (2, 12), BOTH]),
+    "doubled": (doubled, [(1, 40), (2, 256), (1, 10), (0, 5)]),
     "released": (filings.released, [(1, 60), (2, 120)]),
     "ties": (filings.one_class, [(0, 3), (1, 120), (1, 480)]),
     "waiting": (filings.waiting, [(1, 124), (1, 300), BOTH]),

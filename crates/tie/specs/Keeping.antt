@@ -2,7 +2,7 @@
 use mathlib.Core.Path.{_≡_}
 use mathlib.Core.Bool.{Bool}
 use mathlib.Core.List.{List}
-use Prim.Native.Nat.{ℕ, _+_, _-_, _≤_, _<_}
+use Prim.Native.Nat.{ℕ, _+_, _-_, _/_, _≤_, _<_}
 use lib.Dec.{ltb}
 use lib.ListN.{getD}
 use Rattle.general.specs.Flags.{Flags}
@@ -14,13 +14,16 @@ use Rattle.tally.specs.Tally.{stateIn}
 use Rattle.notes.specs.Notes.{notesOf, Whole}
 use Rattle.gather.specs.Gathering.{KeptFrom}
 
--- a clause of so many literals is read faster than the clauses of a class are stamped
+-- a clause of so many literals is read faster than the clauses of a class are stamped; where there are many, each literal fewer is worth so many more
 abbrev pub short : ℕ
 short = 5
 
--- clause g has more
-abbrev pub isLong : List ℕ → ℕ → Bool
-isLong ix g = ltb short (startAt ix (g + 1) - 1 - startAt ix g)
+abbrev pub many : ℕ
+many = 8
+
+-- n clauses such as clause g have more, or there are many
+abbrev pub areLong : List ℕ → ℕ → ℕ → Bool
+areLong ix g n = ltb short (startAt ix (g + 1) - 1 - startAt ix g + n / many)
 
 -- a stamp is 1, and none is 0
 abbrev pub Stamps : List ℕ → Type 0

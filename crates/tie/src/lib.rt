@@ -1,7 +1,7 @@
 // A tie: the class of one open root goes over to a lower one, and two rings become one. Rules 4 and 5 follow where both stood.
 ghost use mathlib.Core.Path.{_≡_};
 ghost use Prim.Native.Nat.{_/_, _<_, _≤_};
-ghost use Rattle.literal.specs.Literal.{codeOf, literalAt, maxVariables, maxClauses};
+ghost use Rattle.literal.specs.Literal.{codeOf, literalAt, maxVariables, maxLiterals, maxClauses};
 ghost use Rattle.theory.specs.State.{replace};
 ghost use Rattle.occurrences.specs.Index.{Indexed, clauseCount};
 ghost use Rattle.tally.specs.Tally.{tallyOf};
@@ -9,7 +9,7 @@ ghost use Rattle.notes.specs.Notes.{notesOf, Whole, maxBlocks};
 ghost use Rattle.gather.specs.Gathering.{AtRoot};
 ghost use Rattle.tie.specs.Turning.{Turnable, Turned, Joined, withSwapped};
 ghost use Rattle.tie.specs.Listing.{blockBetween, ListedBy};
-ghost use Rattle.tie.specs.Keeping.{isLong, Stamps, Stamped, StampedBy, WideWith, StampedAll, Keeping, Kept};
+ghost use Rattle.tie.specs.Keeping.{areLong, Stamps, Stamped, StampedBy, WideWith, StampedAll, Keeping, Kept};
 ghost use Rattle.tie.specs.Tying.{Tieable, TieOf};
 use literal::Literal;
 use notes::Block;
@@ -19,21 +19,24 @@ use tally::Tally;
 
 // Where both classes stand -------------------------------------------------------------------------------------------
 
-// A clause of so many literals is read faster than the clauses of a class are stamped.
+// A clause of so many literals is read faster than the clauses of a class are stamped; where there are many, each literal fewer is worth so many more.
 const SHORT: usize = 5;
+
+const MANY: usize = 8;
 
 // 1 at each clause that is stamped, 0 at any other.
 type Stamps = [u8; Literal::MAX_CLAUSES];
 
-// Whether clause g has more literals.
-fn is_long(index: &Index, g: usize) -> bool
+// Whether n clauses such as clause g are long.
+fn are_long(index: &Index, g: usize, n: usize) -> bool
     requires { ⌜ Indexed (now index) ⌝ }
     requires { ⌜ g < clauseCount (now index) ⌝ }
-    ensures { λ b. ⌜ b ≡ isLong (now (index .entry)) g ⌝ }
+    requires { ⌜ n ≤ maxLiterals ⌝ }
+    ensures { λ b. ⌜ b ≡ areLong (now (index .entry)) g n ⌝ }
 {
     let start = occurrences::start_of(index, g);
     let end = occurrences::end_of(index, g);
-    SHORT < end - start
+    SHORT < end - start + n / MANY
 }
 
 // Stamps the clauses that hold variable p.
@@ -82,7 +85,7 @@ fn keep_stamped(work: &mut Notes, n: usize, stamps: &Stamps) -> usize
     end
 }
 
-// Keeps of the first n gathered clauses those that hold the class of root r too, or all where the first is short, and says how many.
+// Keeps of the first n gathered clauses those that hold the class of root r too, or all where they are short, and says how many.
 fn keep_both(index: &Index, state: &Tally, work: &mut Notes, n: usize, r: u16) -> usize
     requires { ⌜ AtRoot (now index) (now state) r ⌝ }
     requires { ⌜ Keeping (now work) (clauseCount (now index)) n ⌝ }
@@ -91,7 +94,7 @@ fn keep_both(index: &Index, state: &Tally, work: &mut Notes, n: usize, r: u16) -
     if n == 0 {
         return 0;
     }
-    if is_long(index, notes::gathered_at(work, 0) as usize) {
+    if are_long(index, notes::gathered_at(work, 0) as usize, n) {
         let stamps = stamp_class(index, state, r);
         return keep_stamped(work, n, &stamps);
     }

@@ -5,10 +5,10 @@ use Rattle.gather.proofs.Keeping.{kept-all, kept-fewer}
 use Rattle.tie.proofs.keep_both.Statement.{statement}
 use Rattle.tie.proofs.keep_both.Tie as tie
 
-is-long-requires : tie.Need-is-long-requires
-is-long-requires c κs =
+are-long-requires : tie.Need-are-long-requires
+are-long-requires c κs =
     let s = c .before .before .before in
-    (s .pre .0 .index, rw (c .gathered-at .ensures) (s .pre .1 .inside 0 (omega (arith, c .before .before .if1 .left))))
+    (s .pre .0 .index, (rw (c .gathered-at .ensures) (s .pre .1 .inside 0 (omega (arith, c .before .before .if1 .left))), s .pre .1 .few))
 
 keep-stamped-requires : tie.Need-keep-stamped-requires
 keep-stamped-requires c κs =
@@ -22,7 +22,7 @@ keep-both-spec =
     (λ c. rw (c .if1 .taken) (kept-all (c .before .pre .1 .whole) (omega arith)))
     (λ c κs. search needs)
     (λ c. search needs)
-    is-long-requires
+    are-long-requires
     (λ c κs. search needs)
     keep-stamped-requires
     (λ c. kept-fewer (c .before .before .before .stamp-class .ensures .all) (c .keep-stamped .ensures))
