@@ -412,6 +412,50 @@ def sinking(count, switched=True):
     return name.filing([switch + [place[i], place[i - 1]] for i in range(count - 1, 0, -1)])
 
 
+def mixed(half, size, switched):
+    """Of the half that is tied every other group holds the placement left out, and the others share one with the other
+    half: each group of that may meet, by what two groups hold, and none does."""
+    name = Namer()
+    switch = [name("switch")] if switched else []
+    r, q, common, apart = name("r"), name("q"), name("common"), name("apart")
+    groups = [switch + [q, -r]]
+    for i in range(half):
+        groups.append(([q, common] if i % 2 else [-q, apart]) + [name(i % 2, (i + j) % 40) for j in range(size - 2)])
+        groups.append([r, common] + [name("y", (i + j) % 40) for j in range(size - 2)])
+    return name.filing(groups)
+
+
+def sides(half, size, switched, swapped, near, far):
+    """Two halves of groups, each with one of two placements that are tied: `near` and `far` begin the i-th, given it."""
+    name = Namer()
+    switch = [name("switch")] if switched else []
+    r, q = name("r"), name("q")
+    groups = [switch + [q, -r]]
+    tied = (r, q) if swapped else (q, r)
+    for i in range(half):
+        for side, begin, held in (("near", near, tied[0]), ("far", far, tied[1])):
+            group = begin(name, held, i)
+            groups.append(group + [name(side, (i + j) % 40) for j in range(size - len(group))])
+    return name.filing(groups)
+
+
+def late(half, size, switched, swapped):
+    """Only the last group of the one half meets those of the other."""
+    return sides(half, size, switched, swapped, lambda name, a, i: [a] + [-name("y")] * (i == half - 1),
+                 lambda name, b, i: [b, name("y")])
+
+
+def sunk(count, others, size, switched):
+    """As sinking, with groups that hold the placements which are tied."""
+    name = Namer()
+    switch = [name("switch")] if switched else []
+    place = [name("place", i) for i in range(count)]
+    groups = [switch + [place[i], place[i - 1]] for i in range(count - 1, 0, -1)]
+    for k in range(others):
+        groups.append([place[(5 * k) % count]] + [name("rest", (k + j) % 50) for j in range(size)])
+    return name.filing(groups)
+
+
 def late_ties(ties, others):
     """A switch that no layout takes, left out, makes rule 8 fit pair after pair in one class, each found after all
     pairs of the groups before, and the last a dead end."""
@@ -422,6 +466,18 @@ def late_ties(ties, others):
     groups += [[opposite, -name("q", i), name("second", i)] for i in range(ties)]
     groups += [[r, name("q", i), name("first", i)] for i in range(ties)]
     return name.filing(groups + [[name("q", ties - 1), r] + dead])
+
+
+def counted(groups):
+    """Placements counted anew, without those that stand in no group."""
+    used = sorted({abs(e) for g in groups for e in g})
+    number = {p: i + 1 for i, p in enumerate(used)}
+    return len(used), [[number[e] if e > 0 else -number[-e] for e in g] for g in groups]
+
+
+def doubled(groups, n, times, shift):
+    """Long groups in which every placement stands several times; each begins at another placement."""
+    return counted([[1 + (p + g * shift) % n for p in range(n) for _ in range(times)] for g in range(groups)])
 
 
 def one_long_group(size):
@@ -470,6 +526,10 @@ WORST = {
     "sinking": lambda: sinking(255),
     "sinkstart": lambda: sinking(256, switched=False),
     "released": lambda: released(4, 60),
+    "mixed": lambda: mixed(31, 32, 1),
+    "late": lambda: late(24, 40, 1, 0),
+    "sunk": lambda: sunk(189, 288, 4, 1),
+    "doubled": lambda: doubled(1, 256, 8, 0),
 }
 
 

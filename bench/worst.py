@@ -36,60 +36,17 @@ def crossed(classes, half, rest, switched):
     return name.filing(made)
 
 
-def mixed(half, size, switched):
-    """Of the half that is tied every other group holds the placement left out, and the others share one with the other
-    half: each group of that may meet, by what two groups hold, and none does."""
-    name = filings.Namer()
-    switch = [name("switch")] if switched else []
-    r, q, common, apart = name("r"), name("q"), name("common"), name("apart")
-    made = [switch + [q, -r]]
-    for i in range(half):
-        made.append(([q, common] if i % 2 else [-q, apart]) + [name(i % 2, (i + j) % 40) for j in range(size - 2)])
-        made.append([r, common] + [name("y", (i + j) % 40) for j in range(size - 2)])
-    return name.filing(made)
-
-
-def sides(half, size, switched, swapped, near, far):
-    """Two halves of groups that share a placement once two are tied, and then what `near` and `far` say of the i-th."""
-    name = filings.Namer()
-    switch = [name("switch")] if switched else []
-    r, q = name("r"), name("q")
-    made = [switch + [q, -r]]
-    a, b = (r, q) if swapped else (q, r)
-    for i in range(half):
-        for side, group in (("near", [a] + near(name, i)), ("far", [b] + far(name, i))):
-            made.append(group + [name(side, (i + j) % 40) for j in range(size - len(group))])
-    return name.filing(made)
-
-
-def late(half, size, switched, swapped):
-    """Only the last group of the one half meets those of the other."""
-    return sides(half, size, switched, swapped, lambda name, i: [-name("y")] if i == half - 1 else [],
-                 lambda name, i: [name("y")])
-
-
 def crosswise(half, size, switched, swapped):
     """Only the last group of either half meets those of the other."""
     def hold(mine, other):
-        return lambda name, i: [-name(other) if i == half - 1 else name(mine)]
-    return sides(half, size, switched, swapped, hold("z", "y"), hold("y", "z"))
+        return lambda name, tied, i: [tied, -name(other) if i == half - 1 else name(mine)]
+    return filings.sides(half, size, switched, swapped, hold("z", "y"), hold("y", "z"))
 
 
 def matched(half, size, switched, swapped):
-    """Each group meets one of the other half, with the opposite of what ties them."""
-    name_of = lambda name, i: [name("y", i)]
-    return sides(half, size, switched, swapped, name_of, lambda name, i: [-name("x", i)] + name_of(name, i))
-
-
-def sunk(count, groups, size, switched):
-    """As filings.sinking, with groups that hold the placements which are tied."""
-    name = filings.Namer()
-    switch = [name("switch")] if switched else []
-    place = [name("place", i) for i in range(count)]
-    made = [switch + [place[i], place[i - 1]] for i in range(count - 1, 0, -1)]
-    for k in range(groups):
-        made.append([place[(5 * k) % count]] + [name("rest", (k + j) % 50) for j in range(size)])
-    return name.filing(made)
+    """Each group meets just one of the other half, which holds the opposite of what is tied."""
+    return filings.sides(half, size, switched, swapped, lambda name, a, i: [a, name("y", i)],
+                         lambda name, b, i: [-b, name("y", i)])
 
 
 def tied_at_random(n, groups, size, ties, seed):
@@ -97,19 +54,7 @@ def tied_at_random(n, groups, size, ties, seed):
     r = random.Random(seed)
     made = [[1, q, -t if r.random() < 0.5 else t] for q, t in (r.sample(range(2, n + 1), 2) for _ in range(ties))]
     made += [r.sample(range(2, n + 1), min(size, n - 1)) for _ in range(groups)]
-    return named(made)
-
-
-def named(groups):
-    """Placements counted anew, without those that stand in no group."""
-    used = sorted({abs(e) for g in groups for e in g})
-    number = {p: i + 1 for i, p in enumerate(used)}
-    return len(used), [[number[e] if e > 0 else -number[-e] for e in g] for g in groups]
-
-
-def doubled(groups, n, times, shift):
-    """Long groups in which every placement stands several times, in one after the other only some of them."""
-    return named([[1 + (p + g * shift) % n for p in range(n) for _ in range(times)] for g in range(groups)])
+    return filings.counted(made)
 
 
 BOTH = (0, 1)
@@ -119,12 +64,12 @@ FAMILIES = {
     "joined": (filings.joined, [(1, 125), (1, 255), (3, 130), BOTH]),
     "scattered": (filings.scattered, [(1, 125), (2, 120), (1, 511), (0, 6), BOTH]),
     "crossed": (crossed, [(1, 60), (1, 255), (2, 20), BOTH]),
-    "mixed": (mixed, [(2, 255), (3, 130), BOTH]),
-    "late": (late, [(2, 255), (4, 130), BOTH, BOTH]),
+    "mixed": (filings.mixed, [(2, 255), (3, 130), BOTH]),
+    "late": (filings.late, [(2, 255), (4, 130), BOTH, BOTH]),
     "crosswise": (crosswise, [(2, 255), (4, 130), BOTH, BOTH]),
     "matched": (matched, [(2, 100), (4, 130), BOTH, BOTH]),
-    "sunk": (sunk, [(2, 255), (1, 400), (2, 12), BOTH]),
-    "doubled": (doubled, [(1, 40), (2, 256), (1, 10), (0, 5)]),
+    "sunk": (filings.sunk, [(2, 255), (1, 400), (2, 12), BOTH]),
+    "doubled": (filings.doubled, [(1, 40), (2, 256), (1, 10), (0, 5)]),
     "released": (filings.released, [(1, 60), (2, 120)]),
     "ties": (filings.one_class, [(0, 3), (1, 120), (1, 480)]),
     "waiting": (filings.waiting, [(1, 124), (1, 300), BOTH]),
