@@ -475,7 +475,7 @@ def counted(groups):
     return len(used), [[number[e] if e > 0 else -number[-e] for e in g] for g in groups]
 
 
-def doubled(groups, n, times, shift):
+def often(groups, n, times, shift):
     """Long groups in which every placement stands several times; each begins at another placement."""
     return counted([[1 + (p + g * shift) % n for p in range(n) for _ in range(times)] for g in range(groups)])
 
@@ -529,7 +529,7 @@ WORST = {
     "mixed": lambda: mixed(31, 32, 1),
     "late": lambda: late(24, 40, 1, 0),
     "sunk": lambda: sunk(189, 288, 4, 1),
-    "doubled": lambda: doubled(1, 256, 8, 0),
+    "doubled": lambda: often(1, 256, 8, 0),
 }
 
 

@@ -69,7 +69,7 @@ FAMILIES = {
     "crosswise": (crosswise, [(2, 255), (4, 130), BOTH, BOTH]),
     "matched": (matched, [(2, 100), (4, 130), BOTH, BOTH]),
     "sunk": (filings.sunk, [(2, 255), (1, 400), (2, 12), BOTH]),
-    "doubled": (filings.doubled, [(1, 40), (2, 256), (1, 10), (0, 5)]),
+    "doubled": (filings.often, [(1, 40), (2, 256), (1, 10), (0, 5)]),
     "released": (filings.released, [(1, 60), (2, 120)]),
     "ties": (filings.one_class, [(0, 3), (1, 120), (1, 480)]),
     "waiting": (filings.waiting, [(1, 124), (1, 300), BOTH]),
