@@ -12,8 +12,11 @@ use notes::Notes;
 use occurrences::Index;
 use tally::Tally;
 
-// How many clauses are seen at once: as many as a set in a byte has.
+// A set in a byte has so many places, and at least so many clauses are seen at once: a chunk. A side of many is seen in so many chunks, in which clauses
+// share a place.
 const CHUNK: usize = 8;
+
+const CHUNKS: usize = 4;
 
 // Places from `from` to `to`, at which clauses were gathered.
 struct Range {
@@ -152,15 +155,26 @@ fn meet_chunk(index: &Index, state: &mut Tally, work: &mut Notes, rows: Range, c
     }
 }
 
-fn end_of_chunk(from: usize, end: usize) -> usize
+// How long the chunks of so many clauses are.
+fn chunk_length(count: usize) -> usize
+    ensures { λ r. ⌜ 0 < r ⌝ }
+{
+    if count < CHUNK * CHUNKS {
+        return CHUNK;
+    }
+    count / CHUNKS
+}
+
+fn end_of_chunk(from: usize, end: usize, length: usize) -> usize
     requires { ⌜ from < end ⌝ }
     requires { ⌜ end ≤ maxGathered ⌝ }
+    requires { ⌜ 0 < length ⌝ }
     ensures { λ r. ⌜ (from < r) × (r ≤ end) ⌝ }
 {
-    if end - from < CHUNK {
+    if end - from < length {
         return end;
     }
-    from + CHUNK
+    from + length
 }
 
 // The same for each of the others, chunk by chunk.
@@ -177,12 +191,13 @@ fn meet_chunks(
     let first = rows.from;
     let last = rows.to;
     let end = others.to;
+    let length = chunk_length(end - others.from);
     let mut from = others.from;
     loop {
         if end <= from {
             return false;
         }
-        let to = end_of_chunk(from, end);
+        let to = end_of_chunk(from, end, length);
         if meet_chunk(
             index,
             state,
