@@ -1,4 +1,6 @@
 // Add: one group more at the end of the used part of a buffer.
+#![tactic(auto)]
+
 ghost use Rattle.std.specs.Prelude.{◌≡◌, ◌+◌, ◌^◌, ◌<◌, length};
 ghost use Rattle.theory.specs.Refusing.{at_most, first_of};
 ghost use Rattle.theory.specs.Calls.{unknown_in, added, check_group, check_added, add_call};

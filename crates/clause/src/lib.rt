@@ -1,4 +1,6 @@
 // One clause of a table as it stands in a state: its literals one after the other, how often each stands, and the first that passes a test.
+#![tactic(auto)]
+
 ghost use Rattle.std.specs.Prelude.{◌≡◌, ◌+◌, ◌≤◌, length, drop};
 ghost use Rattle.literal.specs.Literal.{var, max_variables};
 ghost use Rattle.theory.specs.Formula.{Clause};
@@ -9,7 +11,7 @@ ghost use Rattle.clause.specs.Finding.{shares, passes, FirstThat};
 use literal::Literal;
 
 // The next literal that stands in a clause, and the index after it.
-#[derive(Drop)]
+#[derive(Clone, Copy)]
 pub enum Next {
     Closed,
     Stands(Literal, usize),
@@ -18,7 +20,7 @@ pub enum Next {
 // What is looked for in a clause beside the counts of one, the same or another: an open literal, one that stands twice there, one that stands there,
 // one whose opposite does, one of another variable than a given one, one that is of another variable and whose opposite stands there, and one that
 // is of another variable and stands there itself or by its opposite.
-#[derive(Drop)]
+#[derive(Clone, Copy)]
 pub enum Test {
     Open,
     Twice,
@@ -29,7 +31,7 @@ pub enum Test {
     Shared(Literal),
 }
 
-#[derive(Drop)]
+#[derive(Clone, Copy)]
 pub enum Found {
     Nothing,
     At(Literal),

@@ -1,4 +1,6 @@
 // The step of most rules and of splits: an open literal becomes false, and its class follows. Counts stay right, and clauses that want a look are noted.
+#![tactic(auto)]
+
 ghost use Rattle.std.specs.Prelude.{◌≡◌, ◌*◌, ◌/◌, ◌<◌, eqb};
 ghost use Rattle.general.specs.Booleans.{bit};
 ghost use Rattle.literal.specs.Literal.{max_clauses};
@@ -16,7 +18,7 @@ use occurrences::Index;
 use tally::Tally;
 
 // A dead end was met; how many clauses are to be looked at.
-#[derive(Drop)]
+#[derive(Clone, Copy)]
 struct Walked {
     dead: bool,
     end: usize,

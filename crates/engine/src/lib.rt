@@ -1,4 +1,6 @@
 // Propagation by lists: a step changes only clauses that hold the changed class, so only those are looked at again.
+#![tactic(auto)]
+
 ghost use Rattle.std.specs.Prelude.{◌≡◌, Bool, ◌<◌, ◌≤◌};
 ghost use Rattle.occurrences.specs.Index.{clause_count, start_at};
 ghost use Rattle.tally.specs.Tally.{count_in};
@@ -14,14 +16,14 @@ use occurrences::Index;
 use tally::Tally;
 
 // Where the look at clauses with two open literals goes on.
-#[derive(Drop)]
+#[derive(Clone, Copy)]
 enum Next {
     DeadEnd,
     From(usize),
 }
 
 // What a look for a tie found: none, a dead end, or that exactly one of two literals is true, of which the first has the lower variable.
-#[derive(Drop)]
+#[derive(Clone, Copy)]
 enum Found {
     Nothing,
     Dead,

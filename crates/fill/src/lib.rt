@@ -1,4 +1,6 @@
 // Runs of a lent list, from an index on: its elements become 0, or those of another list.
+#![tactic(auto)]
+
 ghost use Rattle.std.specs.Prelude.{◌≡◌, ◌++◌, ◌+◌, ◌≤◌, pos, length, replicate, take, drop};
 
 pub fn clear_bytes(bytes: &mut [u8], at: usize, n: usize)

@@ -1,4 +1,6 @@
 // The wide clauses, with no true literal and three or more open ones, of a stretch of variables or of the class of an open root.
+#![tactic(auto)]
+
 ghost use Rattle.std.specs.Prelude.{◌≡◌, ◌%◌, ◌≤◌};
 ghost use Rattle.general.specs.Booleans.{bit};
 ghost use Rattle.literal.specs.Literal.{max_variables};
@@ -11,7 +13,7 @@ use occurrences::Index;
 use tally::Tally;
 
 // Which occurrences of a variable count: those of one sign, or all.
-#[derive(Drop)]
+#[derive(Clone, Copy)]
 pub enum Sign {
     Positive,
     Negative,

@@ -120,6 +120,7 @@ module _ {A : Type 0} (g : ℕ → A) where
 
   pub from_before : (k n : ℕ) (x y : A) → Before x y (from g k n) → (i : ℕ) × (j : ℕ) × (k ≤ i) × (i < j) × (j < k + n) × (x ≡ g i) × (y ≡ g j)
   unfolding from
+  from_before k zero x y x3 = elim x3 [ ]
   from_before k (suc n) x y (here m) = let r = from_mem g (suc k) n y m in (k, r.0, omega arith, omega (arith, r.1), omega (arith, r.2), refl, r.3)
   from_before k (suc n) x y (later b) =
       let r = from_before (suc k) n x y b in (r.0, r.1, omega (arith, r.2), r.3, omega (arith, r.4), r.5, r.6)

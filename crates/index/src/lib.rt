@@ -1,4 +1,6 @@
 // Index: a head for each group of a table, in a lent list.
+#![tactic(auto)]
+
 ghost use Rattle.std.specs.Prelude.{◌≡◌, ◌≤◌};
 ghost use Rattle.literal.specs.Literal.{max_clauses};
 ghost use Rattle.theory.specs.Calls.{index_call};
@@ -9,14 +11,14 @@ use receipt::{Checked, Fault, Head, Indexing, Refusal};
 use table::Pass;
 
 // A group's head, and the index after the 0 that closes the group.
-#[derive(Drop)]
+#[derive(Clone, Copy)]
 pub struct Next {
     pub head: Head,
     pub next: usize,
 }
 
 // The answer, and how many heads are stored: none where the call is refused.
-#[derive(Drop)]
+#[derive(Clone, Copy)]
 pub struct Due {
     pub answer: Indexing,
     pub heads: usize,

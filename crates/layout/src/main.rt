@@ -1,4 +1,5 @@
 // The layout program: a strip from standard input, and what the search of it gives to standard output.
+#![tactic(auto)]
 
 fn main() {
     if stream::explained(

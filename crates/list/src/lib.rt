@@ -1,4 +1,6 @@
 // List: the layouts of a table in order, as many as rows are asked for (document 02, A6), by the tree that splits on the lowest open variable.
+#![tactic(auto)]
+
 ghost use Rattle.std.specs.Prelude.{◌≡◌, ◌+◌, ◌*◌, ltb};
 ghost use Rattle.std.specs.Int.{w32, w64};
 ghost use Rattle.std.proofs.Common.{Fits};
@@ -19,7 +21,7 @@ use side::Branch;
 use tally::Tally;
 
 // How a walk ends: with all there is to find, at a layout more than there are rows for, or at a split for which nothing is left of the allowance.
-#[derive(Drop)]
+#[derive(Clone, Copy)]
 pub enum Ending {
     All,
     More,
@@ -27,7 +29,7 @@ pub enum Ending {
 }
 
 // How a walk of the tree ends, the rows that it writes, and the splits that it makes.
-#[derive(Drop)]
+#[derive(Clone, Copy)]
 pub struct Walk {
     pub ending: Ending,
     pub written: usize,
@@ -35,7 +37,7 @@ pub struct Walk {
 }
 
 // Where a walk stands: of how many variables, from which one on an open one is looked for, the splits left, the rows asked for, and the next of them to write.
-#[derive(Drop)]
+#[derive(Clone, Copy)]
 pub struct Level {
     pub variables: usize,
     pub from: usize,

@@ -1,17 +1,19 @@
 // Placement numbers, group numbers and the entries of a table, as literals.
+#![tactic(auto)]
+
 ghost use Rattle.std.specs.Prelude.{◌≡◌, ◌<◌, nat_abs, pos, length, get_or};
 ghost use Rattle.literal.specs.Literal.{literal, var, is_open, opposite, same, literal_of, entry_of, code_of, literal_at};
 
 // A placement number.
-#[derive(Drop)]
+#[derive(Clone, Copy)]
 pub struct Variable(pub u16);
 
 // A group number, counted apart.
-#[derive(Drop)]
+#[derive(Clone, Copy)]
 pub struct ClauseNumber(pub u16);
 
 // An entry: Pos(p) says that placement p is taken, Neg(p) that it is left out. Variable 0 is the constant: Pos(0) is true, Neg(0) false.
-#[derive(Drop)]
+#[derive(Clone, Copy)]
 pub enum Literal {
     Pos(u16),
     Neg(u16),

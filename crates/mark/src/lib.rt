@@ -1,4 +1,6 @@
 // The marks of a strip, and how long their operands are. The bytes of the marks are known here alone: the reader reads them, and Save writes them.
+#![tactic(auto)]
+
 ghost use Rattle.std.specs.Prelude.{◌≡◌};
 ghost use Rattle.theory.specs.Strip.{byte_of, mark_of, operand_bytes};
 ghost use Rattle.mark.specs.Found.{mark_found};
@@ -20,7 +22,7 @@ const CLOSES: u8 = 0x45;
 const ENDS: u8 = 0x5A;
 
 // The mark of a byte, where it has one.
-#[derive(Drop)]
+#[derive(Clone, Copy)]
 pub enum Found {
     Mark(Mark),
     Nothing,

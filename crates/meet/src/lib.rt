@@ -1,4 +1,6 @@
 // Rules 7 and 8 for a clause and those that were gathered: where a rule fits, its step is made at once; what that lets meet is listed by the step.
+#![tactic(auto)]
+
 ghost use Rattle.std.specs.Prelude.{◌≡◌, cond, ◌/◌, ◌<◌, eqb, get_or};
 ghost use Rattle.literal.specs.Literal.{codes};
 ghost use Rattle.theory.specs.State.{standing};
@@ -20,7 +22,7 @@ const UNSEEN: u16 = 2;
 type Marks = [u16; Literal::VARIABLES];
 
 // How two clauses meet: not, by a common literal beside one that crosses, or by two that cross, of which the first has the lower variable.
-#[derive(Drop)]
+#[derive(Clone, Copy)]
 enum Met {
     Apart,
     Common(u16),
@@ -28,7 +30,7 @@ enum Met {
 }
 
 // What rules 7 and 8 find first for a clause and some that were gathered, and at which place.
-#[derive(Drop)]
+#[derive(Clone, Copy)]
 enum Faced {
     Apart,
     Common(usize),

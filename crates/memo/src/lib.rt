@@ -1,5 +1,7 @@
 // The memo of a search: splits that have no layout, each with the splits of its subtree. A split is known by its variable and its key, what the variables
 // from there on stand for. Keys are compared whole; the hash only picks a slot.
+#![tactic(auto)]
+
 ghost use Rattle.std.specs.Prelude.{◌≡◌, true, ◌+◌, ◌≤◌, ◌<◌, get_or, length};
 ghost use Rattle.literal.specs.Literal.{variables, max_variables};
 ghost use Rattle.theory.specs.Memo.{word};
@@ -68,7 +70,7 @@ const POOR_SPLITS: u32 = 8;
 const MOST_WALKED: u32 = 4294967295;
 
 // A slot that is held for a split whose second side is still to be walked.
-#[derive(Drop)]
+#[derive(Clone, Copy)]
 pub enum Held {
     In(usize),
     Nowhere,

@@ -1,5 +1,7 @@
 // Search for C with the numbers of its memo as parameters: for random trials with few slots and a poor hash, and for the benchmark's column of splits that
 // were walked. The library of the product does not have it.
+#![tactic(auto)]
+
 ghost use Rattle.std.specs.Prelude.{◌≡◌};
 ghost use Rattle.theory.specs.Calls.{search_call};
 ghost use Rattle.memo_trial.specs.Trial.{tried};
@@ -8,7 +10,7 @@ use receipt::Searching;
 
 // The receipt of Search, and how many splits were walked for it: those of its count that the memo did not know.
 #[repr(C)]
-#[derive(Drop)]
+#[derive(Clone, Copy)]
 pub struct MemoTrial {
     pub number: u32,
     pub count: u32,

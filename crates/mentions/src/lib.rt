@@ -1,4 +1,6 @@
 // Which placements a table names (document 02, A3): a truth value for each number up to the limit, kept while the table grows.
+#![tactic(auto)]
+
 ghost use Rattle.std.specs.Prelude.{◌≡◌, List, [], ◌∷◌, ◌++◌, ◌≤◌, ℤ, nat_abs};
 ghost use Rattle.literal.specs.Literal.{max_variables};
 ghost use Rattle.theory.specs.Mentions.{mentions_all};

@@ -1,4 +1,6 @@
 // The work space of the search: lists of what is still to be looked at. Outside a walk of one side it means nothing.
+#![tactic(auto)]
+
 ghost use Rattle.std.specs.Prelude.{◌≡◌, ◌*◌, ◌<◌, get_or};
 ghost use Rattle.literal.specs.Literal.{max_table};
 ghost use Rattle.notes.specs.Notes.{notes_of, block_at, with_todo, with_todo_end, with_word, with_block, with_blocks_end, with_gathered, Whole, max_blocks, max_gathered, notes_size};
@@ -7,7 +9,7 @@ use literal::Literal;
 
 // A block of pairs of clauses that are to be looked at: each clause of one stretch of variables, from `first` along the links to `last`, with each clause
 // of another, from `from` to `to`. Where `last` is 0: each clause that holds variable `first`, with each that holds its opposite.
-#[derive(Drop)]
+#[derive(Clone, Copy)]
 pub struct Block {
     pub first: u16,
     pub last: u16,

@@ -1,4 +1,6 @@
 // The pairs of a block of which a tie, or the start, says that they may meet: a look at each, once. Most are told apart by sets of clauses.
+#![tactic(auto)]
+
 ghost use Rattle.std.specs.Prelude.{◌<◌, ◌≤◌};
 ghost use Rattle.notes.specs.Notes.{near_from, far_from, max_gathered};
 ghost use Rattle.moves.specs.Listing.{ListsIn, SpansIn};
@@ -19,7 +21,7 @@ const CHUNK: usize = 8;
 const CHUNKS: usize = 4;
 
 // Places from `from` to `to`, at which clauses were gathered.
-#[derive(Drop)]
+#[derive(Clone, Copy)]
 struct Range {
     from: usize,
     to: usize,

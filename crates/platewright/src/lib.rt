@@ -1,4 +1,6 @@
 // Every operation, for C (include/platewright.h): each function calls its operation, and flattens the answer.
+#![tactic(auto)]
+
 ghost use Rattle.std.specs.Prelude.{map, ◌≡◌, ◌≤◌, min, length};
 ghost use Rattle.std.proofs.lemmas.List.Edits.{sets};
 ghost use Rattle.index.specs.Index.{heads_at};
@@ -18,7 +20,7 @@ use table::Unknown;
 // What every call answers: number, place, count and clause (group) of the receipt; n, the used length, the rows written and whether there is a layout more
 // where the operation answers them, else 0 and false.
 #[repr(C)]
-#[derive(Drop)]
+#[derive(Clone, Copy)]
 pub struct Answer {
     pub number: u32,
     pub count: u32,
@@ -164,7 +166,7 @@ pub extern "C" fn platewright_preview(
 
 // A table::Pass as C keeps it between two parts: the first unknown variable is told by a bool, its place and its clause.
 #[repr(C)]
-#[derive(Drop)]
+#[derive(Clone, Copy)]
 pub struct Pass {
     pub variables: usize,
     pub place: usize,

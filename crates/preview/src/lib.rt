@@ -1,4 +1,6 @@
 // Preview: what Settle would say if a group were added (document 02, A7).
+#![tactic(auto)]
+
 ghost use Rattle.std.specs.Prelude.{◌≡◌};
 ghost use Rattle.settle.specs.Settle.{called};
 ghost use Rattle.theory.specs.Calls.{preview_call};

@@ -1,4 +1,6 @@
 // Propagation (settling) of a table: each step is the very one that document 01 picks.
+#![tactic(auto)]
+
 ghost use Rattle.std.specs.Prelude.{◌≡◌, true, false, ◌+◌, ◌≤◌, ◌<◌, length};
 ghost use Rattle.std.proofs.Math.Option.{or_else};
 ghost use Rattle.literal.specs.Literal.{var, max_variables, max_table};
@@ -20,7 +22,7 @@ use state::State;
 use theory::{Asked, Step};
 
 // What the rules ask of all clauses, or of some.
-#[derive(Drop)]
+#[derive(Clone, Copy)]
 pub enum Answer {
     Nothing,
     Asks(Asked),

@@ -1,4 +1,6 @@
 // "A reader stands on the strip it was given, at one place; a command gives its mark and operand, or a refusal with its place."
+#![tactic(auto)]
+
 ghost use Rattle.std.proofs.Math.Option.{some};
 ghost use Rattle.std.specs.Prelude.{◌≡◌, ◌+◌, ◌*◌, ◌<◌, length};
 ghost use Rattle.theory.specs.Strip.{turn_of, same, operand_at, command_of, command_at};

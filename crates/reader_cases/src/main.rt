@@ -1,5 +1,7 @@
 // Strips, command by command as a reader finds them: the letter, the operand and the place of each, then the end or the refusal, with its number, place, count and
 // group.
+#![tactic(auto)]
+
 use receipt::{Fault, Refusal};
 use theory::{Command, Mark, Turn};
 

@@ -1,4 +1,6 @@
 // What an operation answers, by cases, and what each answer puts on the receipt.
+#![tactic(auto)]
+
 ghost use Rattle.std.specs.Prelude.{◌≡◌};
 ghost use Rattle.receipt.specs.Receipt.{number_of, named_clause, outcome_number, refusal, receipt, refused_receipt};
 ghost use Rattle.receipt.specs.Answers.{checked_receipt, settling_receipt, searching_receipt, indexing_receipt, adding_receipt, added_length, taking_back_receipt, length_left, reading_receipt, read_variables, read_length, saving_receipt, listing_receipt, rows_written, says_more};
@@ -7,7 +9,7 @@ use literal::ClauseNumber;
 
 // Why a call is refused: the rows of document 01's table of numbers that refuse, in its order, then those of document 02.
 // An unknown variable comes with the number of its group.
-#[derive(Drop)]
+#[derive(Clone, Copy)]
 pub enum Fault {
     TooManyVariables,
     TooManyClauses,
@@ -77,14 +79,14 @@ impl Fault {
 }
 
 // Why, and where: document 01's place.
-#[derive(Drop)]
+#[derive(Clone, Copy)]
 pub struct Refusal {
     pub fault: Fault,
     pub place: usize,
 }
 
 // What a call puts on the receipt.
-#[derive(Drop)]
+#[derive(Clone, Copy)]
 pub struct Receipt {
     pub number: u32,
     pub place: usize,
@@ -128,7 +130,7 @@ impl Refusal {
 const DONE: u32 = 18;
 
 // The table check, which the operations on a table begin with: no fault, or the first one.
-#[derive(Drop)]
+#[derive(Clone, Copy)]
 pub enum Checked {
     Passed,
     Refused(Refusal),
@@ -147,7 +149,7 @@ impl Checked {
 }
 
 // How a search ends that is not refused.
-#[derive(Drop)]
+#[derive(Clone, Copy)]
 pub enum Outcome {
     LaidOut,
     NoLayout,
@@ -167,7 +169,7 @@ impl Outcome {
     }
 }
 
-#[derive(Drop)]
+#[derive(Clone, Copy)]
 pub enum Settling {
     Settled,
     NoLayout,
@@ -188,7 +190,7 @@ impl Settling {
 }
 
 // Search: an outcome with its count of splits.
-#[derive(Drop)]
+#[derive(Clone, Copy)]
 pub enum Searching {
     Ended { outcome: Outcome, count: u32 },
     Refused(Refusal),
@@ -206,7 +208,7 @@ impl Searching {
     }
 }
 
-#[derive(Drop)]
+#[derive(Clone, Copy)]
 pub enum Indexing {
     Indexed,
     Refused(Refusal),
@@ -225,14 +227,14 @@ impl Indexing {
 }
 
 // What Index stores of a group: the index of its first element, of its 0 if it is empty, and its number of entries.
-#[derive(Drop)]
+#[derive(Clone, Copy)]
 pub struct Head {
     pub start: usize,
     pub entries: usize,
 }
 
 // Add: the new used length.
-#[derive(Drop)]
+#[derive(Clone, Copy)]
 pub enum Adding {
     Added(usize),
     Refused(Refusal),
@@ -261,7 +263,7 @@ impl Adding {
 }
 
 // Taking back: the new used length.
-#[derive(Drop)]
+#[derive(Clone, Copy)]
 pub enum TakingBack {
     TakenBack(usize),
     Refused(Refusal),
@@ -291,7 +293,7 @@ impl TakingBack {
 }
 
 // Read: the number of placements and the used length.
-#[derive(Drop)]
+#[derive(Clone, Copy)]
 pub enum Reading {
     Read { variables: usize, used: usize },
     Refused(Refusal),
@@ -333,7 +335,7 @@ impl Reading {
 }
 
 // Save: the number of bytes written.
-#[derive(Drop)]
+#[derive(Clone, Copy)]
 pub enum Saving {
     Saved(usize),
     Refused(Refusal),
@@ -352,7 +354,7 @@ impl Saving {
 }
 
 // List: an outcome with the rows written, whether there is a layout more than those, and its count of splits.
-#[derive(Drop)]
+#[derive(Clone, Copy)]
 pub enum Listing {
     Ended {
         outcome: Outcome,

@@ -1,5 +1,7 @@
 // What the layout program prints for a strip, as bytes.
 // Each function but the last appends to the bytes that stand before `at`, and answers where what it appended ends.
+#![tactic(auto)]
+
 ghost use Rattle.std.specs.Prelude.{◌≡◌, [], ◌+◌, ◌*◌, ◌≤◌, length};
 ghost use Rattle.general.specs.Appending.{Appended};
 ghost use Rattle.io.specs.Counts.{IsPrefixLen};

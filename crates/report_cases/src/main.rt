@@ -1,5 +1,7 @@
 // What is printed for filings of document 01, for strips at the limits and for strips that are refused, one report after the other.
 // In a strip P gives the placements, C is a chapter, G opens a group, T is taken, L left out, E closes the group, Z ends the strip.
+#![tactic(auto)]
+
 ghost use Rattle.std.specs.Prelude.{◌<◌, length};
 
 fn show(strip: &[u8]) {

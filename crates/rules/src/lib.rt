@@ -1,4 +1,6 @@
 // What the rules of document 01 ask: rules 1 to 6 of one clause as it stands, rules 7 and 8 of two.
+#![tactic(auto)]
+
 ghost use Rattle.std.specs.Prelude.{◌≡◌};
 ghost use Rattle.theory.specs.Rules.{tie, becomes_false, rule1, rule3, rule5, rule6};
 ghost use Rattle.clause.specs.Reading.{Ready, clause_at, CountsOf};
@@ -10,14 +12,14 @@ use literal::Literal;
 use theory::Step;
 
 // Rules 7 and 8 look at two clauses.
-#[derive(Drop)]
+#[derive(Clone, Copy)]
 pub enum PairRule {
     Seven,
     Eight,
 }
 
 // Rules 1 to 6 look at one clause.
-#[derive(Drop)]
+#[derive(Clone, Copy)]
 pub enum Rule {
     One,
     Two,
@@ -28,7 +30,7 @@ pub enum Rule {
 }
 
 // Whether a rule fits, and what it asks.
-#[derive(Drop)]
+#[derive(Clone, Copy)]
 pub enum Fit {
     Nothing,
     Asks(Step),

@@ -1,5 +1,7 @@
 // Save: a strip of a table, "placements, each group in table order, no chapter marks, the end".
 // Each function but the last two appends to the bytes that stand before `at`, and answers where what it appended ends.
+#![tactic(auto)]
+
 ghost use Rattle.std.specs.Prelude.{◌≡◌, false, [], ◌∷◌, ◌++◌, ◌+◌, ◌≤◌, ◌<◌, length};
 ghost use Rattle.general.specs.Appending.{Appended};
 ghost use Rattle.literal.specs.Literal.{max_clauses, max_literals};

@@ -1,4 +1,6 @@
 // A filing typed in decimal: the number of placements, then the table's numbers, each a word between blanks.
+#![tactic(auto)]
+
 ghost use Rattle.std.specs.Prelude.{◌≡◌, ◌+◌, ◌≤◌, ◌<◌, pos, neg_ℤ, length, drop};
 ghost use Rattle.scan.specs.Scan.{is_blank, is_digit, natural, most_negative, integer_of, leading, word_of, word_at, table_at, filing_of};
 ghost use Rattle.scan.specs.Answers.{natural_of, blank_is, used_of, scanned_of};
@@ -11,7 +13,7 @@ const MOST_NEGATIVE: u32 = 32768;
 // Words ---------------------------------------------------------------------------------------------------------------
 
 // A word: its number and the index after it, or its place where it is no number, or that no word is left.
-#[derive(Drop)]
+#[derive(Clone, Copy)]
 enum Word {
     Number(i16, usize),
     Wrong(usize),
@@ -19,7 +21,7 @@ enum Word {
 }
 
 // The value of digits, where they are some.
-#[derive(Drop)]
+#[derive(Clone, Copy)]
 enum Natural {
     Value(u32),
     Nothing,
@@ -115,7 +117,7 @@ fn word_at(text: &[u8], at: usize) -> Word
 // The filing ----------------------------------------------------------------------------------------------------------
 
 // The number of placements and the table's length, or the place of what is wrong.
-#[derive(Drop)]
+#[derive(Clone, Copy)]
 pub enum Scanned {
     Filing { variables: usize, used: usize },
     Wrong(usize),

@@ -1,4 +1,6 @@
 // Search: the first layout of a table, by the split tree of document 01.
+#![tactic(auto)]
+
 ghost use Rattle.std.specs.Prelude.{◌≡◌};
 ghost use Rattle.receipt.specs.declared.Searching.TheVariants.{Refused};
 ghost use Rattle.theory.specs.Calls.{search_call};
@@ -7,7 +9,7 @@ ghost use Rattle.search.specs.Call.{called};
 use receipt::{Checked, Fault, Refusal, Searching};
 
 // An answer, and how many splits were made for it: those that were known are in its count alone.
-#[derive(Drop)]
+#[derive(Clone, Copy)]
 pub struct Tried {
     pub answer: Searching,
     pub walked: u32,

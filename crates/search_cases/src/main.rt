@@ -1,5 +1,7 @@
 // Searches document 01's filings, and calls that are refused. Each line is the answer's number, place, count and group, and the first seven elements of plan
 // and trail, all 9 before the call.
+#![tactic(auto)]
+
 use receipt::Receipt;
 
 fn shown(receipt: Receipt, plan: &[u8], trail: &[i16]) {

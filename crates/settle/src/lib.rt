@@ -1,4 +1,6 @@
 // Settle: what settling knows of each placement of a table, and which group settled or tied it.
+#![tactic(auto)]
+
 ghost use Rattle.std.specs.Prelude.{◌≡◌, ◌≤◌, length};
 ghost use Rattle.general.specs.Lists.{up_to};
 ghost use Rattle.literal.specs.Literal.{var, max_variables};

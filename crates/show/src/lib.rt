@@ -1,4 +1,6 @@
 // What the programs with stored output print: receipts and lists, as plain numbers.
+#![tactic(auto)]
+
 use receipt::Receipt;
 
 pub fn text(bytes: &[u8]) {

@@ -1,4 +1,6 @@
 // What Search's tree and List's tree have in common: the variable to split on, the first step of a side of a split, and the choice that is written at a leaf.
+#![tactic(auto)]
+
 ghost use Rattle.std.specs.Prelude.{◌≡◌, ◌++◌, map, ◌+◌, ◌≤◌, length, take, drop};
 ghost use Rattle.general.specs.Booleans.{bit};
 ghost use Rattle.literal.specs.Literal.{max_variables};
@@ -13,7 +15,7 @@ use occurrences::Index;
 use tally::Tally;
 
 // The variable to split on, if there is one.
-#[derive(Drop)]
+#[derive(Clone, Copy)]
 pub enum Branch {
     Nowhere,
     On(Variable),

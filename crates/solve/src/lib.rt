@@ -1,4 +1,6 @@
 // Solving a strip: reading it, and searching what was read. The window and the layout program both do.
+#![tactic(auto)]
+
 ghost use Rattle.std.specs.Prelude.{◌≡◌};
 ghost use Rattle.search.specs.Call.{called};
 ghost use Rattle.theory.specs.Calls.{solve_call, solve_variables};
@@ -7,7 +9,7 @@ use literal::Literal;
 use receipt::{Reading, Searching};
 
 // The search's answer, and the placements of the strip, 0 where it is refused.
-#[derive(Drop)]
+#[derive(Clone, Copy)]
 pub struct Solved {
     pub variables: usize,
     pub answer: Searching,

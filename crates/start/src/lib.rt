@@ -1,4 +1,6 @@
 // The start of a search: everything is open, and what a rule may fit is noted.
+#![tactic(auto)]
+
 ghost use Rattle.std.specs.Prelude.{◌≡◌, false, ◌+◌, ◌%◌, ◌<◌, ◌≤◌, ltb, length};
 ghost use Rattle.general.specs.Booleans.{bit};
 ghost use Rattle.literal.specs.Literal.{max_variables, max_literals, variables};

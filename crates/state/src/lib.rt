@@ -1,4 +1,6 @@
 // The state of propagation, by value: what each variable stands for, and the one operation of all rules and splits.
+#![tactic(auto)]
+
 ghost use Rattle.std.specs.Prelude.{◌≡◌, ◌≤◌};
 ghost use Rattle.literal.specs.Literal.{var, max_variables};
 ghost use Rattle.theory.specs.State.{initial, value, replace, assign};

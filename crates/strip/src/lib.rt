@@ -1,4 +1,6 @@
 // Reading a strip: its commands one by one, the numbers that they change, and the table that they write.
+#![tactic(auto)]
+
 ghost use Rattle.std.specs.Prelude.{◌≡◌, List, ◌≤◌, ℤ, length};
 ghost use Rattle.literal.specs.Literal.{max_variables};
 ghost use Rattle.receipt.specs.Receipt.{refusal};

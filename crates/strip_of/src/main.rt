@@ -1,4 +1,6 @@
 // The program strip_of: a filing typed in decimal from standard input; its strip to standard output, or one line to standard error.
+#![tactic(auto)]
+
 use typed::Typed;
 
 fn main() {

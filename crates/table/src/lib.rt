@@ -1,4 +1,6 @@
 // The table check of document 01: refusals 1 to 5, from one pass over the table, which may be handed over in parts (document 02, A4).
+#![tactic(auto)]
+
 ghost use Rattle.std.specs.Prelude.{◌≡◌};
 ghost use Rattle.theory.specs.Table.{check, refused};
 ghost use Rattle.table.specs.Pass.{begin, one_more, clause_next, unknown_next, earlier, next, after, verdict};
@@ -7,7 +9,7 @@ use literal::{ClauseNumber, Literal};
 use receipt::{Checked, Fault, Refusal};
 
 // The first entry whose size is above n: its index, and the number of its clause.
-#[derive(Drop)]
+#[derive(Clone, Copy)]
 pub enum Unknown {
     Nowhere,
     At(usize, ClauseNumber),
@@ -15,7 +17,7 @@ pub enum Unknown {
 
 // A pass over a table, wherever it stands: the number of variables; of the elements so far the closed clauses and the literals, each counted up to one past its limit,
 // whether the last one was not 0, and the first unknown variable.
-#[derive(Drop)]
+#[derive(Clone, Copy)]
 pub struct Pass {
     pub variables: usize,
     pub clauses: u16,

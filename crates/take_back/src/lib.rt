@@ -1,4 +1,6 @@
 // Taking back: the last group of the used part of a buffer goes (document 02, A7).
+#![tactic(auto)]
+
 ghost use Rattle.std.specs.Prelude.{◌≡◌, false, ◌<◌, length};
 ghost use Rattle.theory.specs.Calls.{take_back_call};
 ghost use Rattle.theory.specs.Heads.{last_start};

@@ -1,4 +1,6 @@
 // The state of the search: what each variable stands for, the rings of the classes, and each clause's count.
+#![tactic(auto)]
+
 ghost use Rattle.std.specs.Prelude.{◌≡◌, ◌<◌, ◌≤◌};
 ghost use Rattle.literal.specs.Literal.{opposite, code_of, literal_at, max_variables, max_clauses, max_table, codes};
 ghost use Rattle.theory.specs.State.{value};

@@ -1,5 +1,7 @@
 // Numbers, lists of numbers and refusals as text, appended to a lent list of bytes.
 // Each function appends to the bytes that stand before `at`, and answers where what it appended ends.
+#![tactic(auto)]
+
 ghost use Rattle.std.specs.Prelude.{[], ◌∷◌, map, ◌+◌, ◌*◌, ◌≤◌, length};
 ghost use Rattle.general.specs.Appending.{Appended};
 ghost use Rattle.text.specs.Text.{decimal, signed, spaced, clause_words, refused_text};

@@ -273,9 +273,9 @@ module _ {A : Type 0} (look : A → Clause) where
       (λ h. let w = pair_some rule (suc k) f a h in (w.0, w.1, w.2, later w.3, numbered_later w.4, numbered_later w.5, w.6, w.7))
       (or_else_some (first_clause (rule (look c)) (suc k) (map look f)) (first_pair rule (suc k) (map look f)) a e)
 
-  pub pair_none : (rule : Clause → Clause → Option Step) (k : ℕ) {g h : A} {f : List A} → first_pair rule k (map look f) ≡ none → Before g h f → rule (look g) (look h) ≡ none
+  pub pair_none : (rule : Clause → Clause → Option Step) {g h : A} (k : ℕ) {f : List A} → first_pair rule k (map look f) ≡ none → Before g h f → rule (look g) (look h) ≡ none
   unfolding first_pair
-  pair_none rule k {g = g} e (here {l = f} m) =
+  pair_none rule {g = g} k e (here {l = f} m) =
       clause_none (rule (look g)) (suc k) f (or_else_none (first_clause (rule (look g)) (suc k) (map look f)) (first_pair rule (suc k) (map look f)) e).0 m
   pair_none rule k e (later {z = z} {l = f} b) =
       pair_none rule (suc k) (or_else_none (first_clause (rule (look z)) (suc k) (map look f)) (first_pair rule (suc k) (map look f)) e).1 b

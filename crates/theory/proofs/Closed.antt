@@ -16,7 +16,7 @@ use Rattle.general.specs.Search.{any, find_none, find_some, any_intro}
 use Rattle.literal.specs.declared.Literal.{Literal}
 use Rattle.literal.specs.Literal.{TRUE, FALSE, var, opposite, same, is_open}
 use Rattle.theory.specs.Formula.{Clause}
-use Rattle.theory.specs.Rules.{occurs, stands, no_true, differ, complementary, other, is_none, live, partner, pair_in, tie, rule1, rule2, rule3, rule4, rule5, rule6, rule7, rule8}
+use Rattle.theory.specs.Rules.{occurs, stands, none_true, differ, complementary, other, is_none, live, partner, pair_in, tie, rule1, rule2, rule3, rule4, rule5, rule6, rule7, rule8}
 use Rattle.theory.proofs.Literals.{of_variable_lem, constant}
 use Rattle.theory.proofs.Clauses.{occurs_here, occurs_tail, mem_occurs, occurs_mem, mem_stands, stands_mem}
 
@@ -69,7 +69,7 @@ twice : (x y : Literal) (c : Clause) → Memᴰ x c → y ≡ x → 2 ≤ occurs
 twice x y c m e = rw e (omega (arith, occurs_here x c, mem_occurs c x m))
 
 module _ (c : Clause) (no_false : NoFalse c) (q : Quiet c) (no_true : occurs TRUE c ≡ 0) where
-  silent : no_true c ≡ true
+  silent : none_true c ≡ true
   silent = eq-eqb (occurs TRUE c) 0 no_true
 
   quiet_opened : (x : Literal) → Memᴰ x c → 0 < var x

@@ -63,7 +63,7 @@ clauses_zeros (negsuc p ∷ t) = rw (eqb-suc-zero p) (omega (arith, push_length 
 heads_length : (s : ℕ) (f : Formula) → length (heads_from s f) ≡ length f
 unfolding heads_from
 heads_length s [] = refl
-heads_length s (c ∷ f) = ap suc (heads_length _ f)
+heads_length s (c ∷ f) = ap suc (heads_length (s + length c + 1) f)
 
 pub heads_zeros : (t : List ℤ) → length (heads_of t) ≡ zeros t
 heads_zeros t = heads_length 0 (clauses t) ∙ clauses_zeros t

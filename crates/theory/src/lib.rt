@@ -1,23 +1,25 @@
 // Document 01 as definitions (specs/) and theorems about them (proofs/). Of code there are only the types that definitions and programs share.
+#![tactic(auto)]
+
 use literal::{ClauseNumber, Literal};
 use receipt::{Fault, Refusal};
 
 // What a rule asks: a dead end, or that an open literal becomes another.
-#[derive(Drop)]
+#[derive(Clone, Copy)]
 pub enum Step {
     DeadEnd,
     Becomes(Literal, Literal),
 }
 
 // A step, and the clause that asks it, of a pair the later one.
-#[derive(Drop)]
+#[derive(Clone, Copy)]
 pub struct Asked {
     pub clause: ClauseNumber,
     pub step: Step,
 }
 
 // The commands of a strip.
-#[derive(Drop)]
+#[derive(Clone, Copy)]
 pub enum Mark {
     Placements,
     Chapter,
@@ -29,7 +31,7 @@ pub enum Mark {
 }
 
 // Where a strip is read: before the placements, outside a group, inside one, after the end.
-#[derive(Drop)]
+#[derive(Clone, Copy)]
 pub enum Turn {
     Start,
     Outside,
@@ -38,14 +40,14 @@ pub enum Turn {
 }
 
 // "a command gives its mark and operand", and the index of the next one, "or a refusal with its place".
-#[derive(Drop)]
+#[derive(Clone, Copy)]
 pub enum Command {
     Command(Mark, u16, usize),
     Refused(Refusal),
 }
 
 // The numbers that are kept of what has been read: placements, opened groups and entries, over the whole filing.
-#[derive(Drop)]
+#[derive(Clone, Copy)]
 pub struct Progress {
     pub turn: Turn,
     pub variables: u16,
@@ -54,14 +56,14 @@ pub struct Progress {
 }
 
 // What a command stores in the table.
-#[derive(Drop)]
+#[derive(Clone, Copy)]
 pub enum Stored {
     Nothing,
     Element(i16),
 }
 
 // What a command does: the numbers after it and what it stores, or why it is refused.
-#[derive(Drop)]
+#[derive(Clone, Copy)]
 pub enum Obeyed {
     Goes(Progress, Stored),
     Refused(Fault),

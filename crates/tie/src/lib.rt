@@ -1,4 +1,6 @@
 // A tie: the class of one open root goes over to a lower one, and two rings become one. Rules 4 and 5 follow where both stood.
+#![tactic(auto)]
+
 ghost use Rattle.std.specs.Prelude.{◌≡◌, ◌/◌, ◌<◌, ◌≤◌};
 ghost use Rattle.literal.specs.Literal.{code_of, literal_at, max_variables, max_literals, max_clauses};
 ghost use Rattle.theory.specs.State.{replace};

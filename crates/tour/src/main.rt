@@ -1,5 +1,7 @@
 // How Rattle code calls each operation, on one small set: exactly one of placements 1, 2 and 3, and exactly one of 3 and 4.
 // Every line ends with the receipt: number, place, count and group. None of the operations has a condition on what is lent to it.
+#![tactic(auto)]
+
 use literal::Literal;
 use receipt::{Head, Receipt};
 use table::Pass;

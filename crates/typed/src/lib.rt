@@ -1,4 +1,6 @@
 // What strip_of writes for a text: the strip that Save makes of the filing typed in it, or one line that says what is wrong, and where.
+#![tactic(auto)]
+
 ghost use Rattle.std.specs.Prelude.{◌≡◌, ◌+◌, ◌≤◌, length, take};
 ghost use Rattle.general.specs.Appending.{Appended};
 ghost use Rattle.typed.specs.Typed.{place_text, output_of, called, output_call, length_of};
@@ -15,7 +17,7 @@ pub const INPUT: usize = MAX_TEXT + 1;
 pub const OUTPUT: usize = save::MAX_SAVED;
 
 // How many bytes of a strip, or of a message.
-#[derive(Drop)]
+#[derive(Clone, Copy)]
 pub enum Typed {
     Strip(usize),
     Message(usize),

@@ -1,4 +1,6 @@
 // What strip_of writes for texts of each kind, a line for each: `strip` and its bytes as numbers, or the message.
+#![tactic(auto)]
+
 use typed::Typed;
 
 fn write(text: &[u8]) {

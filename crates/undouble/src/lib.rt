@@ -1,4 +1,6 @@
 // Rules 4 and 5: a literal that stands twice in a wide clause becomes false; where a literal and its opposite stand, all others there do.
+#![tactic(auto)]
+
 ghost use Rattle.std.specs.Prelude.{◌≡◌, ◌+◌, ◌*◌, eqb};
 ghost use Rattle.general.specs.Booleans.{bit};
 ghost use Rattle.undouble.specs.Doubling.{stood, Signable, Doubling, Undoubled, DoublingAll, UndoubledAll, OpenRoot, DoublesOf};
@@ -8,7 +10,7 @@ use occurrences::Index;
 use tally::Tally;
 
 // How often a variable stands in a clause, with each sign.
-#[derive(Drop)]
+#[derive(Clone, Copy)]
 struct BySign {
     plus: u16,
     minus: u16,

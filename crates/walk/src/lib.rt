@@ -1,4 +1,6 @@
 // The walk of the split tree of document 01 to the first layout of a checked table, with a memo of splits that have none.
+#![tactic(auto)]
+
 ghost use Rattle.std.specs.Prelude.{◌≡◌, ◌+◌, ◌≤◌};
 ghost use Rattle.std.specs.Int.{w32};
 ghost use Rattle.std.proofs.Common.{Fits};
@@ -22,14 +24,14 @@ use side::Branch;
 use tally::Tally;
 
 // How a walk of the tree ends, and the splits that it makes.
-#[derive(Drop)]
+#[derive(Clone, Copy)]
 pub struct Walk {
     pub outcome: Outcome,
     pub count: u32,
 }
 
 // Where a walk stands: of how many variables, from which one on the next branch variable is looked for, the splits left, and the splits above.
-#[derive(Drop)]
+#[derive(Clone, Copy)]
 struct Level {
     variables: usize,
     from: usize,

@@ -1,4 +1,6 @@
 // The window call, which crate platewright exports for C: it lends a strip, an allowance, a plan and a receipt.
+#![tactic(auto)]
+
 ghost use Rattle.std.specs.Prelude.{◌≡◌, ◌+◌, ◌≤◌, length};
 ghost use Rattle.theory.specs.Calls.{over, receipt_length, receipt_bytes, window_call};
 ghost use Rattle.theory.specs.Strip.{max_strip};
