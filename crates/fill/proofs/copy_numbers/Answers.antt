@@ -1,5 +1,5 @@
 -- By the laws of Runs.
-use Rattle.std.proofs.Common.{sym, ◌∙◌, pos}
+use Rattle.std.proofs.Common.{rules, sym, ◌∙◌, pos}
 use lib.Seq.{length-take-le, get_or-take}
 use mir.Syntax.{w16}
 use mir.ValLaws.{to_z-of_z}
