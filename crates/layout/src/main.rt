@@ -1,19 +1,20 @@
 // The layout program: a strip from standard input, and what the search of it gives to standard output.
 #![tactic(auto)]
 
-fn main() {
+fn main(rt: HostRuntime) {
     if stream::explained(
+        &rt,
         b"layout: reads a strip from standard input and prints its first layout. It takes no arguments.\n",
     ) {
         return;
     }
     let mut strip = [0u8; report::INPUT];
-    let input = stream::read_input(&mut strip);
+    let input = stream::read_input(&rt, &mut strip);
     if input.failed {
         return;
     }
     let mut out = [0u8; report::PRINTED];
     let length = input.length;
     let printed = report::report(&strip[..length], &mut out);
-    stream::write_output(&out[..printed]);
+    stream::write_output(&rt, &out[..printed]);
 }

@@ -42,6 +42,7 @@ pub fn byte(mark: Mark) -> u8
     }
 }
 
+#[tactic(auto, unfolding(theory::specs::Strip::mark_of, general::specs::Search::find))]
 pub fn of_byte(byte: u8) -> Found
     ensures { mark_found result ≡ mark_of byte }
 {

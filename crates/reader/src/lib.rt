@@ -95,6 +95,7 @@ fn command_of(strip: &[u8], at: usize, turn: Turn, mark: Mark) -> Command
 }
 
 // The command at an index of the strip: 20, where its byte is no mark.
+#[tactic(auto, unfolding(theory::specs::Strip::command_at))]
 fn command_at(strip: &[u8], at: usize, turn: Turn) -> Command
     requires { at < length strip.now }
     ensures { result ≡ command_at strip.now at turn }
@@ -108,8 +109,7 @@ fn command_at(strip: &[u8], at: usize, turn: Turn) -> Command
 
 // The reader ----------------------------------------------------------------------------------------------------------
 
-// A struct that holds a reference: the checker covers no function that takes, makes or returns one, so the four below are proved by hand.
-// They are thin, and the work is `command_at`'s, on the slice and the place.
+// A struct that holds a reference. The four functions below are thin: the work is `command_at`'s, on the slice and the place.
 #[derive(Drop)]
 pub struct Reader<'a> {
     pub strip: &'a [u8],
@@ -141,7 +141,7 @@ pub fn command<'a>(reader: Reader<'a>, turn: Turn) -> Command
     command_at(reader.strip, reader.at, turn)
 }
 
-// The same for a caller that has the slice and the place: it holds no reader, so its proof is no walk by hand.
+// The same for a caller that has the slice and the place, and holds no reader.
 pub fn command_from(strip: &[u8], at: usize, turn: Turn) -> Command
     requires { at < length strip.now }
     ensures { result ≡ command_at strip.now at turn }

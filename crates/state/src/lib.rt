@@ -9,7 +9,7 @@ ghost use Rattle.state.specs.State.{state_of, InRange};
 use literal::{Literal, Variable};
 
 // At index p the code of the literal that variable p stands for. Variable 0 is the constant.
-#[derive(Drop)]
+#[derive(Clone, Copy)]
 pub struct State {
     pub values: [u16; Literal::VARIABLES],
 }

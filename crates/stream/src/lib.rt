@@ -4,6 +4,10 @@
 ghost use Rattle.std.specs.Prelude.{◌≤◌, length};
 ghost use Rattle.io.specs.Counts.{IsPrefixLen};
 
+use std::env::{Env, FillError};
+use std::io::{Read, Write};
+use std::io;
+
 // What was read: so many bytes, and whether reading failed.
 #[derive(Clone, Copy)]
 pub struct Input {
@@ -11,26 +15,44 @@ pub struct Input {
     pub failed: bool,
 }
 
-// One read; no bytes at the end of the input.
-fn read_some(buf: &mut [u8]) -> Input
-    ensures { result.length ≤ length buf.old }
-{
-    let got = libc::read(libc::STDIN_FILENO, buf);
-    Input {
-        length: io::count(got, buf),
-        failed: got < 0,
+// What failed, and the system's reason without its number.
+fn explain(rt: &HostRuntime, what: &str, error: &io::Error) -> io::Result<()> {
+    let told = format!(in rt.alloc(); "{error}")?;
+    let text = told.as_str();
+    match text.split_once(" (os error ") {
+        Some((reason, _)) => eprintln!(rt; "{what}: {reason}"),
+        None => eprintln!(rt; "{what}: {text}"),
     }
 }
 
-// Reads until the buffer is full, the input ends or a read fails.
-fn read_all(buf: &mut [u8]) -> Input
+// One read; no bytes at the end of the input, and where it fails, which is told.
+fn read_some(rt: &HostRuntime, buf: &mut [u8]) -> Input
+    ensures { result.length ≤ length buf.old }
+{
+    match rt.stdin().read(buf) {
+        Ok(length) => Input {
+            length,
+            failed: false,
+        },
+        Err(error) => {
+            let _ = explain(rt, "can't read standard input", &error);
+            Input {
+                length: 0,
+                failed: true,
+            }
+        }
+    }
+}
+
+// Standard input: reads until the buffer is full, the input ends or a read fails, with a line that says so.
+pub fn read_input(rt: &HostRuntime, buf: &mut [u8]) -> Input
     ensures { IsPrefixLen result.length buf.new }
 {
     let mut done = 0;
     let mut end = buf.len();
     let mut failed = false;
     while done < end {
-        let part = read_some(&mut buf[done..]);
+        let part = read_some(rt, &mut buf[done..]);
         if part.length == 0 {
             end = done;
             failed = part.failed;
@@ -44,29 +66,24 @@ fn read_all(buf: &mut [u8]) -> Input
     }
 }
 
-// Standard input, or a line that says that it can't be read.
-pub fn read_input(buf: &mut [u8]) -> Input
-    ensures { IsPrefixLen result.length buf.new }
-{
-    let read = read_all(buf);
-    if read.failed {
-        os::fail(b"can't read standard input");
+// To standard output, or a line that says that it can't be written.
+pub fn write_output(rt: &HostRuntime, bytes: &[u8]) {
+    if let Err(error) = rt.stdout().write_all(bytes) {
+        let _ = explain(rt, "can't write standard output", &error);
     }
-    read
 }
 
-// To standard output, or a line that says that it can't be written.
-pub fn write_output(bytes: &[u8]) {
-    if !io::write_all(libc::STDOUT_FILENO, bytes) {
-        os::fail(b"can't write standard output");
-    }
+// To standard error.
+pub fn write_error(rt: &HostRuntime, bytes: &[u8]) {
+    let _ = rt.stderr().write_all(bytes);
 }
 
 // Whether the program was called with arguments, of which it takes none: it then says what it is for.
-pub fn explained(purpose: &[u8]) -> bool {
-    if os::arg_count() < 2 {
+pub fn explained(rt: &HostRuntime, purpose: &[u8]) -> bool {
+    let mut first = [0u8; 1];
+    if let Err(FillError::NotPresent) = rt.arg(1, &mut first) {
         return false;
     }
-    io::write_all(libc::STDERR_FILENO, purpose);
+    write_error(rt, purpose);
     true
 }

@@ -82,6 +82,7 @@ fn ended(progress: Progress, mentioned: &[bool; Literal::VARIABLES]) -> Obeyed
 }
 
 // What a command with its operand does. A chapter does nothing.
+#[tactic(auto, unfolding(theory::specs::Strip::obey))]
 fn obey(
     progress: Progress,
     mentioned: &[bool; Literal::VARIABLES],

@@ -3,14 +3,15 @@
 
 use typed::Typed;
 
-fn main() {
+fn main(rt: HostRuntime) {
     if stream::explained(
+        &rt,
         b"strip_of: reads the number of placements and a table, as decimal numbers, from standard input, and writes their strip. It takes no arguments.\n",
     ) {
         return;
     }
     let mut text = [0u8; typed::INPUT];
-    let input = stream::read_input(&mut text);
+    let input = stream::read_input(&rt, &mut text);
     if input.failed {
         return;
     }
@@ -19,8 +20,8 @@ fn main() {
     let answer = typed::strip_of(&text[..length], &mut out);
     let bytes = answer.bytes(&out);
     if let Typed::Strip(_) = answer {
-        stream::write_output(bytes);
+        stream::write_output(&rt, bytes);
     } else {
-        io::write_all(2, bytes);
+        stream::write_error(&rt, bytes);
     }
 }

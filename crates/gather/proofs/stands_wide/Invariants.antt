@@ -1,0 +1,7 @@
+-- What the loop of `stands_wide` keeps.
+use Rattle.std.proofs.Common.{◌<◌}
+use Rattle.gather.proofs.Waits.{Waits}
+use Rattle.gather.proofs.stands_wide.Given as goal
+
+abbrev pub invariant-loop-j : goal.invariant-loop-j
+invariant-loop-j l = Waits l.index l.state (λ k. k < 2) (λ g. ⊥) l.p l.first l.last l.j

@@ -1,0 +1,13 @@
+-- An entry is read back as it is, so its size has at most five digits.
+use Rattle.text.proofs.Entries.{negative_entry, other_entry}
+use Rattle.text.proofs.put_entry.Goals as goal
+
+pub returns-then-entry-lt0 : goal.returns-then-entry-lt0
+returns-then-entry-lt0 c =
+    let both = negative_entry c.args.entry c.ranges.entry c.size-value.ensures c.if-entry-lt0.true c.put_bytes-next.ensures c.put_digits.ensures.appended in
+    record { appended = both.0; upper_bound = both.1 }
+
+pub returns : goal.returns
+returns c =
+    let both = other_entry c.args.entry c.ranges.entry c.size-value.ensures c.if-entry-lt0.false c.put_number.ensures.appended in
+    record { appended = both.0; upper_bound = both.1 }
