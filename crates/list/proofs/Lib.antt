@@ -4,3 +4,4 @@ pub mod Sides
 pub mod Starting
 pub mod Calling
 pub mod Promises
+pub mod SideRuns

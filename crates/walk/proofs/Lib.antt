@@ -4,3 +4,4 @@ pub mod Branches
 pub mod Sides
 pub mod Remembering
 pub mod Starting
+pub mod SideWalks

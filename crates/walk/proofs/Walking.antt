@@ -15,7 +15,6 @@ use Rattle.literal.specs.declared.Literal.TheVariants.{Pos, Neg}
 use Rattle.literal.specs.Literal.{TRUE, FALSE, entry_of}
 use Rattle.receipt.specs.declared.Outcome.TheVariants.{LaidOut, NoLayout}
 use Rattle.theory.specs.Formula.{Formula, Choice}
-use Rattle.theory.specs.Propagation.{rest}
 use Rattle.theory.specs.Search.{split_on, decide}
 use Rattle.theory.specs.State.{State, assign}
 use Rattle.theory.specs.Tree.{Found, Run, run, visit, tree, Result, finish, stop, limited}
