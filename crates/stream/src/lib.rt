@@ -5,8 +5,8 @@ ghost use Rattle.std.specs.Prelude.{◌≤◌, length};
 ghost use Rattle.io.specs.Counts.{IsPrefixLen};
 
 use std::env::{Env, FillError};
-use std::io::{Read, Write};
 use std::io;
+use std::io::{Read, Write};
 
 // What was read: so many bytes, and whether reading failed.
 #[derive(Clone, Copy)]

@@ -1,5 +1,4 @@
 -- io writes the digits.
-use Rattle.std.proofs.Common.{rules}
 use Rattle.text.proofs.Words.{digits_appended}
 use Rattle.text.proofs.put_digits.Goals as goal
 

@@ -1,11 +1,7 @@
 -- By the laws of Outputs.
-use Rattle.std.proofs.Common.{◌≡◌, ap, ◌∙◌, take, arith, List, ℕ}
-use lib.IntN.{ℤ}
-use Rattle.receipt.specs.declared.Saving.TheVariants.{Saved, Refused}
-use Rattle.theory.specs.Calls.{save_check, save_call}
-use Rattle.save.specs.Save.{called as saveCalled}
-use Rattle.typed.specs.Typed.{filing_output, output_of}
-use Rattle.typed.proofs.Outputs.{too_long, short, message_written, Writes, writes}
+use Rattle.std.proofs.Common.{ap, ◌∙◌, arith}
+use Rattle.typed.specs.Typed.{filing_output}
+use Rattle.typed.proofs.Outputs.{too_long, short, message_written, writes}
 use Rattle.typed.proofs.strip_of.Goals as goal
 
 pub returns-then-text-gt-MAX_TEXT : goal.returns-then-text-gt-MAX_TEXT
