@@ -115,8 +115,7 @@ build_all() {
     mkdir -p "$build"
     : >"$log"
     echo "proving and building, which takes some minutes; the output goes to $log"
-    logged rt check layout strip_of
-    logged rt staticlib platewright
+    logged tools/build.sh platewright layout strip_of
     printf '{ global: platewright_*; local: *; };\n' >"$build/exports"
     logged gcc -shared -o "$build/$shared" -Wl,-soname,"$shared.$major" -Wl,--version-script="$build/exports" \
         -Wl,-z,defs,-z,noexecstack,-z,relro,-z,now \

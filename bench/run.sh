@@ -36,8 +36,8 @@ need() { # command, Debian package
     exit 1
 }
 
-proved() { # words for rt
-    rt "$@" >"$out/build.log" 2>&1 || { cat "$out/build.log"; exit 1; }
+proved() { # crates
+    tools/build.sh "$@" >"$out/build.log" 2>&1 || { cat "$out/build.log"; exit 1; }
 }
 
 in_callers() { # a file's name as the caller gave it
@@ -53,7 +53,7 @@ else
 fi
 
 library() {
-    [ -n "$prefix" ] || proved staticlib platewright
+    [ -n "$prefix" ] || proved platewright
 }
 
 flags=(-std=c++17 -O3 -march=native -pthread -Wall -Wextra -Werror -Wno-psabi)
@@ -70,7 +70,7 @@ compiled_measure() {
     if [ -n "$prefix" ]; then
         compiled measure
     else
-        proved staticlib memo_trial
+        proved memo_trial
         compiled measure -DMEMO_TRIAL target/staticlib/libmemo_trial.a
     fi
 }
@@ -103,7 +103,7 @@ table() {
     need minisat minisat
     need cadical cadical
     need clasp clasp
-    [ -n "$prefix" ] || proved check layout
+    [ -n "$prefix" ] || proved layout
     compiled own
     compiled_measure
     compare

@@ -4,8 +4,8 @@ of crates/*/src, a function or constant of include/platewright.h, a crate, or a 
 
     tests/names.py [ROOT]    prints what is declared nowhere, or not where it says; a failure if there is any
 
-A name is what stands between two backquotes. In a table whose first cell is a name with a hyphen at its end, as
-`search-`, the names of the other cells go on from it. A word in round brackets after names is the file that has them,
+A name is what stands between two backquotes. In a table whose first cell is a name with an underscore at its end, as
+`search_`, the names of the other cells go on from it. A word in round brackets after names is the file that has them,
 of crate theory or of the crate that is named.
 """
 import pathlib
@@ -14,7 +14,7 @@ import sys
 
 DOCUMENT = "docs/THEOREMS.md"
 QUOTED = re.compile(r"`([^`]+)`")
-PREFIX = re.compile(r"^\|\s*`([\w-]+-)`\s*\|")
+PREFIX = re.compile(r"^\|\s*`(\w+_)`\s*\|")
 PLACED = re.compile(r"((?:`[^`]+`(?:,| and)?\s+)+)\(([A-Z]\w+)(?:,\s+of\s+`(\w+)`)?\)")
 KINDS, BINDERS = r"(?:(?:abbrev|unfoldable)\s+)?pub\s+(?:(?:record|data)\s+)?", r"(?:\s+[({].*)?"
 ANTT = re.compile(r"^\s*" + KINDS + r"([^\s:(){}]+)" + BINDERS + r"\s*:(?:\s|$)")

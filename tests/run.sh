@@ -78,7 +78,7 @@ grep '^Ran ' "$room/python.log"
 
 # the search with a memory that can be made small is for these alone, and isn't installed
 step "trials beside the reference"
-rt staticlib memo_trial >"$room/memo_trial.log" 2>&1 || { cat "$room/memo_trial.log"; exit 1; }
+tools/build.sh memo_trial >"$room/memo_trial.log" 2>&1 || { cat "$room/memo_trial.log"; exit 1; }
 memo_trial=target/staticlib/libmemo_trial.a
 mkdir "$room/trials"
 (
