@@ -83,9 +83,9 @@ module _ {ix st wk : List ℕ} {p start : ℕ} {s : Sign} {first last : ℕ} {wk
     room_left = omega (arith, o.paid, o.room, o.waits.begins, o.waits.ends, more)
 
     module _ (x : ℕ) (occurrence : x ≡ occurrence_at ix j) (wk'' : List ℕ) (put : notes_of wk'' ≡ with_gathered end (x / 2) (notes_of wk')) (whole : Whole wk'')
-        (k n m : ℕ) (counts : k ≡ count_in st (x / 2)) (is_Is_wide : n ≡ bit (is_wide k)) (is_Signed : m ≡ bit (is_signed s (x % 2))) where
+        (k n m : ℕ) (counts : k ≡ count_in st (x / 2)) (is_wide_lem : n ≡ bit (is_wide k)) (is_signed_lem : m ≡ bit (is_signed s (x % 2))) where
       at_most_one : n * m ≤ 1
-      at_most_one = rw (is_Is_wide, is_Signed) (bits (is_wide k) (is_signed s (x % 2)))
+      at_most_one = rw (is_wide_lem, is_signed_lem) (bits (is_wide k) (is_signed s (x % 2)))
         where
           bits : (a b : Bool) → bit a * bit b ≤ 1
           bits true true = omega arith
@@ -97,7 +97,7 @@ module _ {ix st wk : List ℕ} {p start : ℕ} {s : Sign} {first last : ℕ} {wk
       collects_goes = record {
         waits = waits_goes o.waits more x occurrence
             (λ g d. (d.0, d.1, omega (arith, d.2), put_other wk' wk'' end (x / 2) put d.0 (λ e. omega (arith, d.2)) ∙ d.3))
-            (λ w q. (end, o.grew, (let a : n ≡ 1 = is_Is_wide ∙ ap (λ (i : ℕ). bit (is_wide i)) counts ∙ ap bit w.1 in let b : m ≡ 1 = is_Signed ∙ ap bit q in rw (a, b) (omega arith)), here));
+            (λ w q. (end, o.grew, (let a : n ≡ 1 = is_wide_lem ∙ ap (λ (i : ℕ). bit (is_wide i)) counts ∙ ap bit w.1 in let b : m ≡ 1 = is_signed_lem ∙ ap bit q in rw (a, b) (omega arith)), here));
         room = o.room;
         grew = omega (arith, o.grew);
         paid = omega (arith, o.paid, at_most_one);

@@ -140,10 +140,10 @@ module _ {A : Type 0} where
   set_after (suc d) e (y ∷ t) l h = ap (◌∷◌ y) (set_after d e t l (omega arith))
 
   -- past the end
-  pub get_d_past : (l : List A) (i : ℕ) (d : A) → length l ≤ i → get_or l i d ≡ d
-  get_d_past [] i d h = refl
-  get_d_past (x ∷ l) zero d h = absurd (omega arith)
-  get_d_past (x ∷ l) (suc i) d h = get_d_past l i d (omega arith)
+  pub get_or_past : (l : List A) (i : ℕ) (d : A) → length l ≤ i → get_or l i d ≡ d
+  get_or_past [] i d h = refl
+  get_or_past (x ∷ l) zero d h = absurd (omega arith)
+  get_or_past (x ∷ l) (suc i) d h = get_or_past l i d (omega arith)
 
   -- one value throughout, and past the end
   pub get_or_throughout : (n i : ℕ) (a : A) → get_or (replicate n a) i a ≡ a

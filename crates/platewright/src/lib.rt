@@ -156,7 +156,7 @@ pub extern "C" fn platewright_preview(
     reasons: &mut [u16],
 ) -> Answer
     ensures reasons_after { (result, (list.new, reasons.new)) ≡ settled (preview_call used n group.now buffer.now list.old reasons.old) }
-    ensures buffer_value { buffer.now ≡ buffer.now }
+    ensures buffer_value { buffer.exit.now ≡ buffer.entry.now }
 {
     let r = preview::preview(buffer, used, n, group, list, reasons);
     plain(r.receipt())

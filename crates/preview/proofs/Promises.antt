@@ -48,17 +48,17 @@ grown u g b = take u b ++ with_zero g
 
 -- Of the definitions: a preview is Settle of the used part that Add leaves in any copy with room enough. ------------------
 
-module _ (u n : ℕ) (g b c l : List ℤ) (m : List ℕ) (in_Buffer : u ≤ length b) (in_copy : u ≤ length c) (alike : take u c ≡ take u b) where
+module _ (u n : ℕ) (g b c l : List ℤ) (m : List ℕ) (in_buffer : u ≤ length b) (in_copy : u ≤ length c) (alike : take u c ≡ take u b) where
   -- whatever room the buffer has, and whatever stands after its used part
   pub preview_alike : preview_call u n g c l m ≡ preview_call u n g b l m
   preview_alike =
       preview_checked u n g c l m
-      ∙ ap (previewed u n g c l m) (checked_alike u n g c b in_copy in_Buffer alike)
+      ∙ ap (previewed u n g c l m) (checked_alike u n g c b in_copy in_buffer alike)
       ∙ ap (λ t. unless (check_group u n g b) (λ r. settle_refused r l m) (settle_call n (t ++ with_zero g) l m)) alike
       ∙ sym (preview_checked u n g b l m)
 
   pub preview_any_copy : u + length g + 1 ≤ length c → let a = add_call u n g c in preview_call u n g b l m ≡ settle_after a.answer n a.buffer l m
-  preview_any_copy room = preview_checked u n g b l m ∙ sym (copy_settled u n g b l m in_Buffer c alike room)
+  preview_any_copy room = preview_checked u n g b l m ∙ sym (copy_settled u n g b l m in_buffer c alike room)
 
 -- a call by its checks: "the preview has add's refusals without 23, then 14, 19" --------------------------------------
 

@@ -18,7 +18,7 @@ pub fn preview(
     reasons: &mut [u16],
 ) -> Settling
     ensures reasons_after { called result list.new reasons.new ≡ preview_call used n group.now buffer.now list.old reasons.old }
-    ensures buffer_value { buffer.now ≡ buffer.now }
+    ensures buffer_value { buffer.exit.now ≡ buffer.entry.now }
 {
     let checked = add::check_added(buffer, used, n, group, Literal::MAX_TABLE);
     match checked {

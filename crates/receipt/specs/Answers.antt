@@ -11,7 +11,7 @@ use Rattle.receipt.specs.declared.Indexing.TheVariants as indexing
 use Rattle.receipt.specs.declared.Adding.{Adding}
 use Rattle.receipt.specs.declared.Adding.TheVariants as adding
 use Rattle.receipt.specs.declared.TakingBack.{TakingBack}
-use Rattle.receipt.specs.declared.TakingBack.TheVariants as taking-back
+use Rattle.receipt.specs.declared.TakingBack.TheVariants as taking_back
 use Rattle.receipt.specs.declared.Reading.{Reading}
 use Rattle.receipt.specs.declared.Reading.TheVariants as reading
 use Rattle.receipt.specs.declared.Saving.{Saving}
@@ -54,13 +54,13 @@ added_length (adding.Refused r) = 0
 
 -- Taking back (document 02, A7): 18 done
 abbrev pub taking_back_receipt : TakingBack → Receipt
-taking_back_receipt (taking-back.TakenBack u) = receipt done 0 0
-taking_back_receipt (taking-back.Refused r) = refused_receipt r
+taking_back_receipt (taking_back.TakenBack u) = receipt done 0 0
+taking_back_receipt (taking_back.Refused r) = refused_receipt r
 
 -- "the new used length is the answer, 0 on refusal"
 abbrev pub length_left : TakingBack → ℕ
-length_left (taking-back.TakenBack u) = u
-length_left (taking-back.Refused r) = 0
+length_left (taking_back.TakenBack u) = u
+length_left (taking_back.Refused r) = 0
 
 -- Read: 16 strip read
 abbrev pub reading_receipt : Reading → Receipt

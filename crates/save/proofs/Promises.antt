@@ -32,7 +32,7 @@ use Rattle.theory.proofs.Encodings.{saved_length_lem, saved_short}
 use Rattle.theory.proofs.Refusing.{most_passes, first_passed, last_passes, table_named, passed_named, first_named, if_named, most_named, number_not_refused, first_refuses, Refusing, accepted_is, refused_with, accepted_when, unchanged, call_cases, call_names}
 use Rattle.theory.proofs.Tables.{accepted_sizes, accepted_exactly}
 use Rattle.theory.proofs.Unknown.{none_named}
-use Rattle.strip.specs.Decoding.{called as readCalled}
+use Rattle.strip.specs.Decoding.{called as read_called}
 use Rattle.strip.proofs.Accepted.{read_accepted}
 use Rattle.strip.proofs.Ends.{read_mentioned}
 use Rattle.strip.proofs.Promises.{read_used, read_too_long}
@@ -139,7 +139,7 @@ module _ {n : ℕ} {t : List ℤ} {s : List ℕ} {r : Saving} {s' : List ℕ} (c
     pub save_writes : take (saving_receipt r).place s' ≡ saved_strip n t
     save_writes = written.2
 
-    module _ (t₀ : List ℤ) (r₂ : Reading) (t₂ : List ℤ) (reads : readCalled r₂ t₂ ≡ read_call (take (saving_receipt r).place s') t₀) where
+    module _ (t₀ : List ℤ) (r₂ : Reading) (t₂ : List ℤ) (reads : read_called r₂ t₂ ≡ read_call (take (saving_receipt r).place s') t₀) where
       -- "Reading the saved strip brings back n and the same table", at the start of a table with room for it
       pub save_then_read : length t ≤ length t₀ → (r₂ ≡ Read n (length t)) × (t₂ ≡ over (length t) t t₀)
       unfolding read_call
@@ -155,7 +155,7 @@ module _ {n : ℕ} {t : List ℤ} {s : List ℕ} {r : Saving} {s' : List ℕ} (c
           omega (arith, rw save_writes at long, saved_short n t written.0)
 
 -- "for a strip without chapter marks, reading and then saving brings back the same bytes"
-module _ (s : List ℕ) (t₀ : List ℤ) (r₂ : Reading) (t₂ : List ℤ) (reads : readCalled r₂ t₂ ≡ read_call s t₀) (n u : ℕ) (read : r₂ ≡ Read n u) where
+module _ (s : List ℕ) (t₀ : List ℤ) (r₂ : Reading) (t₂ : List ℤ) (reads : read_called r₂ t₂ ≡ read_call s t₀) (n u : ℕ) (read : r₂ ≡ Read n u) where
   abbrev decoded : Decoding
   decoded = read_strip s (length t₀)
 

@@ -12,7 +12,7 @@ use lib.IntN.{ℤ}
 use lib.ListN.{length, take, length-take}
 use lib.Seq.{get_or-take, length-take-le}
 use Rattle.general.specs.Booleans.{false_unless}
-use Rattle.general.specs.Lists.{get_d_past}
+use Rattle.general.specs.Lists.{get_or_past}
 use Rattle.receipt.specs.declared.Fault.TheVariants.{CutStrip, UnmentionedVariable}
 use Rattle.receipt.specs.declared.Reading.{Reading}
 use Rattle.receipt.specs.declared.Reading.TheVariants.{Read, Refused}
@@ -99,12 +99,12 @@ module _ (s : List ℕ) (b : Bytes s) (room : ℕ) where
   front_bytes : (m : ℕ) → Bytes (take m s)
   front_bytes m i = elim (dec_lt i m) [
     | yes h ↦ rw (get_or-take m s i 0 h) (b i)
-    | no h ↦ rw (get_d_past (take m s) i 0 (omega (arith, length-take m s))) (omega arith)
+    | no h ↦ rw (get_or_past (take m s) i 0 (omega (arith, length-take m s))) (omega arith)
   ]
 
   module _ (i : ℕ) (w : UnmentionedInStrip s room i) where
     inside : i + 1 ≤ length s
-    inside = elim (dec_lt i (length s)) [ yes h ↦ omega arith | no h ↦ absurd (omega (arith, get_d_past s i 0 (omega arith), w.mark)) ]
+    inside = elim (dec_lt i (length s)) [ yes h ↦ omega arith | no h ↦ absurd (omega (arith, get_or_past s i 0 (omega arith), w.mark)) ]
 
     front_refused : read_strip (take (i + 1) s) room ≡ not_read (refusal UnmentionedVariable i)
     front_refused =

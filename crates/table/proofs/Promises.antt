@@ -18,7 +18,7 @@ use Rattle.theory.specs.Table.{check, WithinLimits}
 use Rattle.theory.specs.Unknown.{UnknownInTable, Names}
 use Rattle.theory.proofs.Refusing.{first_refuses, check_first}
 use Rattle.theory.proofs.Tables.{accepted_exactly}
-use Rattle.theory.proofs.Unknown.{none_named, check_names as definition-names}
+use Rattle.theory.proofs.Unknown.{none_named, check_names as definition_names}
 use Rattle.table.specs.declared.Pass.{Pass}
 use Rattle.table.specs.Pass.{begin, next, after, after_all, verdict}
 use Rattle.table.proofs.Passes.{verdict_check}
@@ -97,4 +97,4 @@ module _ {n : ℕ} {ts : List (List ℤ)} {r : Checked} (c : Call n ts r) where
 
   -- A2: 5 is for the first unknown placement of the whole list, with its group; "for all other numbers it is 0"
   pub check_names : Names (UnknownInTable n (flatten ts)) (checked_receipt r)
-  check_names = rw (check_parts c) (definition-names n (flatten ts) checked_receipt (λ w. refl) (none_named done 0 0 (λ e. omega arith)))
+  check_names = rw (check_parts c) (definition_names n (flatten ts) checked_receipt (λ w. refl) (none_named done 0 0 (λ e. omega arith)))

@@ -10,7 +10,7 @@ use lib.Seq.{length-take-le}
 use Rattle.receipt.specs.declared.Fault.TheVariants.{UsedLengthWrong, NoClause}
 use Rattle.receipt.specs.declared.Refusal.{Refusal}
 use Rattle.receipt.specs.declared.Checked.TheVariants.{Passed, Refused}
-use Rattle.receipt.specs.declared.TakingBack.TheVariants as taking-back
+use Rattle.receipt.specs.declared.TakingBack.TheVariants as taking_back
 use Rattle.receipt.specs.Receipt.{refusal}
 use Rattle.theory.specs.Calls.{cleared, take_back_call}
 use Rattle.theory.specs.Heads.{last_start}
@@ -20,17 +20,17 @@ use Rattle.theory.proofs.Tables.{accepted_closed}
 use Rattle.take_back.specs.TakeBack.{called}
 
 module _ (u n : ℕ) (b : List ℤ) where
-  pub call_used : length b < u → (r : Refusal) → r ≡ refusal UsedLengthWrong 0 → called (taking-back.Refused r) b ≡ take_back_call u n b
+  pub call_used : length b < u → (r : Refusal) → r ≡ refusal UsedLengthWrong 0 → called (taking_back.Refused r) b ≡ take_back_call u n b
   unfolding take_back_call
   call_used h r e = rw (lt-ltb (length b) u h, e)
 
   module _ (room : u ≤ length b) where
-    pub call_refused : (r : Refusal) → check n (take u b) ≡ Refused r → called (taking-back.Refused r) b ≡ take_back_call u n b
+    pub call_refused : (r : Refusal) → check n (take u b) ≡ Refused r → called (taking_back.Refused r) b ≡ take_back_call u n b
     unfolding take_back_call
     call_refused r e = rw (le-ltb (length b) u room, e)
 
     module _ (passed : check n (take u b) ≡ Passed) where
-      pub call_nothing : u ≡ 0 → (r : Refusal) → r ≡ refusal NoClause 0 → called (taking-back.Refused r) b ≡ take_back_call u n b
+      pub call_nothing : u ≡ 0 → (r : Refusal) → r ≡ refusal NoClause 0 → called (taking_back.Refused r) b ≡ take_back_call u n b
       unfolding take_back_call zeros
       call_nothing z r e =
           let k : zeros (take u b) ≡ 0 = rw z in
@@ -47,7 +47,7 @@ module _ (u n : ℕ) (b : List ℤ) where
         pub start_before : last_start (take u b) < u
         start_before = omega (arith, start_inside (take u b) (accepted_closed n (take u b) passed) some_used, length_used)
 
-        pub call_taken : called (taking-back.TakenBack (last_start (take u b))) (cleared (last_start (take u b)) u b) ≡ take_back_call u n b
+        pub call_taken : called (taking_back.TakenBack (last_start (take u b))) (cleared (last_start (take u b)) u b) ≡ take_back_call u n b
         unfolding take_back_call
         call_taken =
             let z = last_zeros (last_found (take u b) (accepted_closed n (take u b) passed) some_used) in
@@ -55,7 +55,7 @@ module _ (u n : ℕ) (b : List ℤ) where
 
         -- by where code finds the start, and what it clears
         pub call_cleared : (v : ℕ) → v ≡ last_start (take u b) → (b' : List ℤ) → b' ≡ take v b ++ (replicate (u - v) (posℤ 0) ++ drop (v + (u - v)) b) →
-            called (taking-back.TakenBack v) b' ≡ take_back_call u n b
+            called (taking_back.TakenBack v) b' ≡ take_back_call u n b
         call_cleared v e b' i =
             let k : v + (u - v) ≡ u = omega (arith, e, start_before) in
-            ap (called (taking-back.TakenBack v)) (rw k at i) ∙ rw e call_taken
+            ap (called (taking_back.TakenBack v)) (rw k at i) ∙ rw e call_taken

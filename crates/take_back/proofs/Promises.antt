@@ -24,7 +24,7 @@ use Rattle.receipt.specs.declared.Fault.TheVariants.{UsedLengthWrong, NoClause}
 use Rattle.receipt.specs.declared.Receipt.{Receipt}
 use Rattle.receipt.specs.declared.Refusal.{Refusal}
 use Rattle.receipt.specs.declared.TakingBack.{TakingBack}
-use Rattle.receipt.specs.declared.TakingBack.TheVariants as taking-back
+use Rattle.receipt.specs.declared.TakingBack.TheVariants as taking_back
 use Rattle.theory.specs.Calls.{AddCall, added, TakeBackCall, take_back_refused, cleared, taken_back_call, take_back_call}
 use Rattle.theory.specs.Heads.{last_start, last_group}
 use Rattle.theory.specs.Refusing.{refused_if, at_most, first_of, first_refusal, NotRefused, RefusedFirst}
@@ -111,32 +111,32 @@ module _ {u n : ℕ} {b : List ℤ} {r : TakingBack} {b' : List ℤ} (c : Call u
   abbrev checks : List Checked
   checks = at_most u (length b) UsedLengthWrong ∷ check n (take u b) ∷ none ∷ []
 
-  by_checks : Refusing taking-back.Refused (λ (s : TakeBackCall). s.answer) (λ w. take_back_refused w b) (first_refusal checks) (taken_back_call u b) (called r b')
+  by_checks : Refusing taking_back.Refused (λ (s : TakeBackCall). s.answer) (λ w. take_back_refused w b) (first_refusal checks) (taken_back_call u b) (called r b')
   unfolding take_back_call
   by_checks = record { is = c.is; turns = λ w. refl; accepts = λ w e. let z : ◌≡◌ {A = ℕ} 0 1 = cc in omega arith }
 
   checked : (first_refusal checks ≡ Passed) ↔ Takeable u n b
   checked =
       let k = both_pass (most_passes u (length b) UsedLengthWrong) (both_pass (accepted_exactly n (take u b)) (last_passes (if_passes (eqb (zeros (take u b)) 0) NoClause))) in (
-        λ e. let h = k.0 e in let not_None = eqb-false (zeros (take u b)) 0 h.1.1 in record { used = h.0; within = h.1.0; some = omega (arith, not_None) },
+        λ e. let h = k.0 e in let not_none = eqb-false (zeros (take u b)) 0 h.1.1 in record { used = h.0; within = h.1.0; some = omega (arith, not_none) },
         λ a. k.1 (a.used, (a.within, ne_eqb (zeros (take u b)) 0 (λ e. omega (arith, e, a.some)))),
       )
 
   -- demand 1, of Take back: accepted exactly when there is a group to take back
-  pub take_back_accepts : NotRefused taking-back.Refused r ↔ Takeable u n b
+  pub take_back_accepts : NotRefused taking_back.Refused r ↔ Takeable u n b
   take_back_accepts = accepted_when by_checks checked
 
   take_back_taken : Takeable u n b → called r b' ≡ taken_back_call u b
   take_back_taken a = accepted_is by_checks (checked.1 a)
 
   -- 18 done, place 0; "the new used length is the answer": where the last group started
-  pub take_back_answers : NotRefused taking-back.Refused r → (taking_back_receipt r ≡ receipt done 0 0) × (length_left r ≡ last_start (take u b))
+  pub take_back_answers : NotRefused taking_back.Refused r → (taking_back_receipt r ≡ receipt done 0 0) × (length_left r ≡ last_start (take u b))
   take_back_answers h =
       let e = take_back_taken (take_back_accepts.0 h) in
       (ap (λ (s : TakeBackCall). taking_back_receipt s.answer) e, ap (λ (s : TakeBackCall). length_left s.answer) e)
 
   -- demand 1: "a refused call changes no lent element"; "0 on refusal"
-  pub take_back_refused_unchanged : (w : Refusal) → r ≡ taking-back.Refused w → (b' ≡ b) × (length_left r ≡ 0)
+  pub take_back_refused_unchanged : (w : Refusal) → r ≡ taking_back.Refused w → (b' ≡ b) × (length_left r ≡ 0)
   take_back_refused_unchanged w e = (ap (λ (s : TakeBackCall). s.buffer) (unchanged by_checks w e).2, ap length_left e)
 
   -- A2: 5 is for the first unknown placement of the used part, with its group; "for all other numbers it is 0"
@@ -146,19 +146,19 @@ module _ {u n : ℕ} {b : List ℤ} {r : TakingBack} {b' : List ℤ} (c : Call u
       (none_named done 0 0 (λ e. omega arith))
 
   -- refused exactly with the first check that refuses
-  pub take_back_refused_lem : (w : Refusal) → (r ≡ taking-back.Refused w) ↔ RefusedFirst checks w
+  pub take_back_refused_lem : (w : Refusal) → (r ≡ taking_back.Refused w) ↔ RefusedFirst checks w
   take_back_refused_lem w = (λ e. let o = unchanged by_checks w e in let q : o.0 ≡ w = cc (ap (λ (x : TakeBackCall). x.answer) o.2) in (first_refuses checks w).0 (rw q at o.1), λ f. refused_with by_checks w ((first_refuses checks w).1 f))
 
   -- "taking back has 12,
-  pub take_back_used_wrong : length b < u → r ≡ taking-back.Refused (refusal UsedLengthWrong 0)
+  pub take_back_used_wrong : length b < u → r ≡ taking_back.Refused (refusal UsedLengthWrong 0)
   take_back_used_wrong l = refused_with by_checks (refusal UsedLengthWrong 0) (rw (lt-ltb (length b) u l))
 
   -- 1 to 5"
-  pub take_back_table_refused : u ≤ length b → (w : Refusal) → check n (take u b) ≡ Refused w → r ≡ taking-back.Refused w
+  pub take_back_table_refused : u ≤ length b → (w : Refusal) → check n (take u b) ≡ Refused w → r ≡ taking_back.Refused w
   take_back_table_refused h w e = refused_with by_checks w (rw (le-ltb (length b) u h, e))
 
   -- "then 28, nothing to take back, when there is no group"
-  pub take_back_nothing : (r ≡ taking-back.Refused (refusal NoClause 0)) ↔ ((u ≡ 0) × (n ≤ max_variables))
+  pub take_back_nothing : (r ≡ taking_back.Refused (refusal NoClause 0)) ↔ ((u ≡ 0) × (n ≤ max_variables))
   unfolding zeros
   take_back_nothing = (
     λ q. let x = unchanged by_checks (refusal NoClause 0) q in let e : x.0 ≡ refusal NoClause 0 = cc (ap (λ (s : TakeBackCall). s.answer) x.2) in found (rw e at x.1),

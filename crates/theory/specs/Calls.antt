@@ -22,7 +22,7 @@ use Rattle.receipt.specs.declared.Head.{Head}
 use Rattle.receipt.specs.declared.Adding.{Adding}
 use Rattle.receipt.specs.declared.Adding.TheVariants as adding
 use Rattle.receipt.specs.declared.TakingBack.{TakingBack}
-use Rattle.receipt.specs.declared.TakingBack.TheVariants as taking-back
+use Rattle.receipt.specs.declared.TakingBack.TheVariants as taking_back
 use Rattle.receipt.specs.declared.Reading.{Reading}
 use Rattle.receipt.specs.declared.Reading.TheVariants as reading
 use Rattle.receipt.specs.declared.Saving.{Saving}
@@ -203,7 +203,7 @@ pub record TakeBackCall : Type 0 where
   pub buffer : List ℤ
 
 abbrev pub take_back_refused : Refusal → List ℤ → TakeBackCall
-take_back_refused r b = record { answer = taking-back.Refused r; buffer = b }
+take_back_refused r b = record { answer = taking_back.Refused r; buffer = b }
 
 -- "its elements and its closing zero become 0": those from v, the new used length, up to u
 abbrev pub cleared : ℕ → ℕ → List ℤ → List ℤ
@@ -211,7 +211,7 @@ cleared v u b = take v b ++ (replicate (u - v) (posℤ 0) ++ drop u b)
 
 -- "the last group of the used part is removed"
 abbrev pub taken_back_call : ℕ → List ℤ → TakeBackCall
-taken_back_call u b = let v = last_start (take u b) in record { answer = taking-back.TakenBack v; buffer = cleared v u b }
+taken_back_call u b = let v = last_start (take u b) in record { answer = taking_back.TakenBack v; buffer = cleared v u b }
 
 -- "taking back has 12, 1 to 5, then 28, nothing to take back, when there is no group" (document 02, A7)
 unfoldable pub take_back_call : ℕ → ℕ → List ℤ → TakeBackCall

@@ -16,7 +16,7 @@ use Rattle.theory.specs.Encoding.{saved_strip, max_saved}
 use Rattle.theory.specs.Refusing.{at_most, first_refusal, unless}
 use Rattle.theory.specs.Calls.{SaveCall, save_refused, saved_call, save_check, save_call}
 use Rattle.theory.proofs.Encodings.{saved_most}
-use Rattle.save.specs.Save.{called as saveCalled}
+use Rattle.save.specs.Save.{called as save_called}
 use Rattle.save.proofs.Calling.{save_passed}
 use Rattle.scan.specs.Scan.{filing_of}
 use Rattle.text.specs.Text.{refused_text}
@@ -60,5 +60,5 @@ module _ (n : ℕ) (t : List ℤ) (l : List ℕ) (long : max_saved ≤ length l)
           let h : length b ≤ length l = omega (arith, saved_most n t (save_passed n t e).0) in
           rw (le-ltb (length l) (length b) h) (refl, omega (arith, length-append b (drop (length b) l)))
 
-  pub writes : {r : Saving} {l' : List ℕ} {o : Output} → saveCalled r l' ≡ save_call n t l → table_output (save_check n t) n t ≡ o → Writes l o r l'
+  pub writes : {r : Saving} {l' : List ℕ} {o : Output} → save_called r l' ≡ save_call n t l → table_output (save_check n t) n t ≡ o → Writes l o r l'
   writes is e = rw (← is, e) at save_writes

@@ -45,5 +45,5 @@ module _ {ix st wk : List ℕ} {p : ℕ} {l : Level} {plan : List ℕ} {trail : 
 
       -- what both sides come to, where the first has no layout
       pub whole_walk : w.outcome ≡ NoLayout → side_of (1 + w.count) l.depth (Pos p) (walked b q'' v'') ≡ split_walk p l ix st plan trail
-      whole_walk None_found =
-          second_side l.variables (formula_of ix) (state_in st) p l.depth plan trail l.left some_left (side_room k) _ h None_found _ i
+      whole_walk none_found =
+          second_side l.variables (formula_of ix) (state_in st) p l.depth plan trail l.left some_left (side_room k) _ h none_found _ i

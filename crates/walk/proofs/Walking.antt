@@ -93,8 +93,8 @@ module _ (n : ℕ) (f : Formula) (v : State) (q d : ℕ) (p : List ℕ) (t : Lis
     pub second_side : w.walk.outcome ≡ NoLayout → (b : Walked) →
         b ≡ walk_of n (d + 1) (limited (left - (1 + w.walk.count)) (walks 1 taken)) w.plan w.trail →
         side_of (1 + w.walk.count) d (Pos q) b ≡ walk_of n d (limited left whole) p t
-    second_side None-found b eb =
-        let o = sym outcome_is ∙ None-found in
+    second_side none_found b eb =
+        let o = sym outcome_is ∙ none_found in
         let e = ew ∙ ap (λ (r : Result Choice). walk_of n (d + 1) r p t) (limited_nothing (left - 1) (walks 1 out) o).1 in
         let k : (limited (left - 1) (walks 1 out)).count ≡ w.walk.count = sym (ap (λ (u : Walked). u.walk.count) ew) in
         let rest : left - 1 - w.walk.count ≡ left - (1 + w.walk.count) = omega arith in

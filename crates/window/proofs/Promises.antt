@@ -35,7 +35,7 @@ use Rattle.theory.specs.Unknown.{UnknownInStrip, Names}
 use Rattle.theory.proofs.Encodings.{clauses_table}
 use Rattle.theory.proofs.Mentions.{mentioned_exactly}
 use Rattle.theory.proofs.Refusing.{passed_named}
-use Rattle.theory.proofs.Tables.{accepted_sizes, accepted_exactly as table-accepted}
+use Rattle.theory.proofs.Tables.{accepted_sizes, accepted_exactly as table_accepted}
 use Rattle.strip.proofs.Accepted.{read_accepted}
 use Rattle.strip.proofs.Ends.{never_short}
 use Rattle.strip.proofs.Encoded.{within_read}
@@ -247,7 +247,7 @@ module _ {s : List ℕ} {n : ℕ} {l : List Item} {b : ℕ} {plan old : List ℕ
   is_formula = clauses_table (groups l) h.acceptable.strip.limits.known.low
 
   all_stand : AllStand n (groups l)
-  all_stand = rw is_formula at ((mentioned_exactly n table ((table-accepted n table).1 call.acceptable.table)).0 h.acceptable.strip.mentioned)
+  all_stand = rw is_formula at ((mentioned_exactly n table ((table_accepted n table).1 call.acceptable.table)).0 h.acceptable.strip.mentioned)
 
   -- 0 laid out, 10 no layout or 11 stopped on the receipt, with the count; place and group 0
   pub window_answers : (o : Outcome) × (k : ℕ) × (receipt_on w.receipt ≡ receipt (outcome_number o) 0 k)
