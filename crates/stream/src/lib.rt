@@ -15,9 +15,11 @@ pub struct Input {
     pub failed: bool,
 }
 
-// What failed, and the system's reason without its number.
+// What failed, and the system's reason without its number; with it where there is no memory to cut it off.
 fn explain(rt: &HostRuntime, what: &str, error: &io::Error) -> io::Result<()> {
-    let told = format!(in rt.alloc(); "{error}")?;
+    let Ok(told) = format!(in rt.alloc(); "{error}") else {
+        return eprintln!(rt; "{what}: {error}");
+    };
     let text = told.as_str();
     match text.split_once(" (os error ") {
         Some((reason, _)) => eprintln!(rt; "{what}: {reason}"),
