@@ -110,7 +110,7 @@ fn index_first(table: &[i16], n: usize, heads: [Head; Literal::MAX_CLAUSES], roo
     Filled { answer, heads: all }
 }
 
-// The same for any room: no table has more groups than the array has heads. Whoever calls it needs no walk by hand.
+// The same for any room: no table has more groups than the array has heads.
 pub fn index_array(
     table: &[i16],
     n: usize,

@@ -57,7 +57,7 @@ fn settle_it(table: &[i16]) {
     told(b" settle ", answer.receipt());
 }
 
-// Index of an array by value: code that lends a list of structs is proved by hand.
+// Index of an array by value.
 fn index_it(table: &[i16]) {
     let heads = [Head {
         start: 0,
