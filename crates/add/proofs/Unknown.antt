@@ -3,7 +3,7 @@ use mathlib.Core.Path.{◌≡◌, refl, ap, sym, subst, ◌∙◌}
 use mathlib.Core.Bool.{false}
 use mathlib.Core.Logic.{inl, inr}
 use mathlib.Core.List.{List, [], ◌∷◌, ◌++◌}
-use mathlib.Core.Option.{Option, none, some}
+use Rattle.std.specs.Prelude.{Option, None, Some}
 use Prim.Native.Nat.{ℕ, ◌+◌, ◌≤◌}
 use native.Mathlib.Omega.{arith}
 use borrow.Author.Tests.{ne_eqb}
@@ -13,7 +13,7 @@ use lib.Seq.{length-take-le, take-append-add, take-append-le, get_or-append-add}
 use Rattle.general.specs.Booleans.{true_not_false}
 use Rattle.general.specs.Search.{First, first_place, place_some}
 use Rattle.literal.specs.Literal.{max_clauses, max_literals}
-use Rattle.receipt.specs.declared.Checked.TheVariants.{Refused}
+use Rattle.std.specs.Prelude.{Err}
 use Rattle.receipt.specs.declared.Fault.TheVariants.{TooManyClauses, TooManyLiterals, UsedLengthWrong}
 use Rattle.receipt.specs.declared.Refusal.{Refusal}
 use Rattle.receipt.specs.Receipt.{named_clause, unknown_variable, refusal}
@@ -56,10 +56,10 @@ module _ (u n : ℕ) (g b : List ℤ) where
   abbrev t : List ℤ
   t = take u b
 
-  first_wrong : u ≤ length b → Accepted n t → (w : Refusal) → (o : Option ℕ) → first_place (is_wrong n) u g ≡ o → list_unknown (zeros t + 1) o ≡ Refused w →
+  first_wrong : u ≤ length b → Accepted n t → (w : Refusal) → (o : Option ℕ) → first_place (is_wrong n) u g ≡ o → list_unknown (zeros t + 1) o ≡ Err w →
       UnknownInAdd n t g (named_clause w.fault).0 w.place
-  first_wrong l a w none p e = absurd (let z : ◌≡◌ {A = ℕ} 0 1 = cc in omega arith)
-  first_wrong l a w (some i) p e =
+  first_wrong l a w None p e = absurd (let z : ◌≡◌ {A = ℕ} 0 1 = cc in omega arith)
+  first_wrong l a w (Some i) p e =
       let f = place_some (is_wrong n) u g i p in
       let k : length t ≡ u = length-take-le u b l in
       let q : w ≡ refusal (unknown_variable (zeros t + 1)) i = cc in

@@ -1,4 +1,6 @@
 pub mod Walk
+pub mod Reading
 pub mod Counting
-pub mod Clauses
+pub mod Searching
+pub mod Advancing
 pub mod Accepted

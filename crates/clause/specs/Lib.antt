@@ -1,2 +1,4 @@
 pub mod Reading
 pub mod Finding
+pub mod Clauses
+pub mod Literals

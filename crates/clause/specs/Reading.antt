@@ -1,5 +1,5 @@
 -- A clause of a table as it stands in a state, and how code reads and counts it.
-use Rattle.std.specs.Prelude.{◌≡◌, false, List, [], ◌∷◌, map, ℕ, zero, suc, ◌≤◌, ◌<◌, ℤ, negsuc, nat_abs, pos as posℤ, length, get_or, drop}
+use Rattle.std.specs.Prelude.{◌≡◌, false, List, [], ◌∷◌, map, ℕ, zero, suc, ◌≤◌, ℤ, negsuc, nat_abs, pos as posℤ, length, get_or, drop}
 use Rattle.literal.specs.declared.Literal.{Literal}
 use Rattle.literal.specs.declared.Literal.TheVariants.{Pos, Neg}
 use Rattle.literal.specs.Literal.{var, code_of, max_variables, max_table}
@@ -7,20 +7,13 @@ use Rattle.theory.specs.Formula.{Clause, clauses}
 use Rattle.theory.specs.State.{standing}
 use Rattle.theory.specs.Rules.{occurs}
 use Rattle.theory.specs.Table.{ends_open}
-use Rattle.state.specs.State.{state_of, InRange}
-use Rattle.clause.specs.declared.Next.{Next}
-use Rattle.clause.specs.declared.Next.TheVariants.{Closed, Stands}
+use Rattle.state.specs.State.{state_of}
 
 -- what code may read without a further test: a table within the limits
 pub record Readable (t : List ℤ) : Type 0 where
   pub known : (i : ℕ) → nat_abs (get_or t i (posℤ 0)) ≤ max_variables
   pub short : length t ≤ max_table
   pub closed : ends_open false t ≡ false
-
--- and with it a state whose codes are indices
-pub record Ready (t : List ℤ) (v : List ℕ) : Type 0 where
-  pub readable : Readable t
-  pub range : InRange v
 
 -- the literals up to the first 0
 unfoldable pub group : List ℤ → Clause
@@ -47,18 +40,6 @@ clauses_from t v from = map (standing (state_of v)) (clauses (drop from t))
 pub record Begins (t : List ℤ) (from : ℕ) : Type 0 where
   pub inside : from ≤ length t
   pub closed : ends_open false (drop from t) ≡ false
-
--- the clause from i on is x and the clause from j on
-pub record Reads (t : List ℤ) (v : List ℕ) (i : ℕ) (x : Literal) (j : ℕ) : Type 0 where
-  pub first : clause_at t v i ≡ x ∷ clause_at t v j
-  pub known : var x ≤ max_variables
-  pub further : i < j
-  pub inside : j ≤ length t
-
--- what the next literal says of the clause from i on
-abbrev pub NextOf : List ℤ → List ℕ → ℕ → Next → Type 0
-NextOf t v i Closed = clause_at t v i ≡ []
-NextOf t v i (Stands x j) = Reads t v i x j
 
 -- an array counts the literals of a clause by their codes
 pub record CountsOf (k : List ℕ) (c : Clause) : Type 0 where

@@ -1,25 +1,54 @@
 // One clause of a table as it stands in a state: its literals one after the other, how often each stands, and the first that passes a test.
 #![tactic(auto)]
 
-ghost use Rattle.std.specs.Prelude.{◌≡◌, ◌+◌, ◌≤◌, length, drop};
+ghost use Rattle.std.specs.Prelude.{◌≡◌, ◌+◌, ◌≤◌, length, drop, position, pos};
+ghost use Rattle.std.specs.Ordering.{int_eq};
+ghost use Rattle.std.specs.Iterator.{YieldsFirst, item_count};
+ghost use Rattle.general.specs.Search.{find};
 ghost use Rattle.literal.specs.Literal.{var, max_variables};
-ghost use Rattle.theory.specs.Formula.{Clause};
 ghost use Rattle.theory.specs.Rules.{occurs, differ, live};
-ghost use Rattle.clause.specs.Reading.{Ready, group_length, clause_at, NextOf, CountsOf};
-ghost use Rattle.clause.specs.Finding.{shares, passes, FirstThat};
+ghost use Rattle.clause.specs.Reading.{Readable, group_length, clause_at, CountsOf, Begins};
 
-use literal::Literal;
+use literal::{ClauseNumber, Literal};
+use state::State;
 
-// The next literal that stands in a clause, and the index after it.
+// A table as it stands in a state.
 #[derive(Clone, Copy)]
-pub enum Next {
-    Closed,
-    Stands(Literal, usize),
+pub struct Standing<'a> {
+    pub table: &'a [i16],
+    pub state: &'a State,
+    pub ghost readable: { Readable table.now },
+}
+
+// The clauses of a table, one after the other: the number of each, and the index at which it begins.
+#[derive(Clone, Copy)]
+pub struct Clauses<'a> {
+    pub of: Standing<'a>,
+    pub clause: ClauseNumber,
+    pub at: usize,
+    pub ghost begins: { Begins of.table.now at },
+    pub ghost low: { clause.0 ≤ at + 1 },
+}
+
+// The literals of a clause that stand, one after the other: false ones are dropped.
+#[derive(Clone, Copy)]
+pub struct Literals<'a> {
+    of: Standing<'a>,
+    at: usize,
+}
+
+// How often each literal stands in the clause that begins at an index, by its code.
+#[derive(Drop)]
+pub struct Counted<'a> {
+    pub of: Standing<'a>,
+    pub at: usize,
+    by_code: [u16; Literal::CODES],
+    ghost counts: { CountsOf by_code (clause_at of.table.now of.state.now.values at) },
 }
 
 // What is looked for in a clause beside the counts of one, the same or another: an open literal, one that stands twice there, one that stands there,
 // one whose opposite does, one of another variable than a given one, one that is of another variable and whose opposite stands there, and one that
-// is of another variable and stands there itself or by its opposite.
+// is of another variable and stands there itself or by its opposite. No closures: rules 7 and 8 pick theirs by the rule, and no function can give one.
 #[derive(Clone, Copy)]
 pub enum Test {
     Open,
@@ -31,175 +60,165 @@ pub enum Test {
     Shared(Literal),
 }
 
-#[derive(Clone, Copy)]
-pub enum Found {
-    Nothing,
-    At(Literal),
-}
+impl<'a> Iterator for Clauses<'a> {
+    type Item = (ClauseNumber, usize);
 
-// The index after the 0 that closes the clause at `from`.
-pub fn next_clause(table: &[i16], from: usize) -> usize
-    requires { from ≤ length table.now }
-    ensures { result ≡ from + group_length (drop from table.now) }
-{
-    for i in from..table.len() {
-        if literal::size_at(table, i) == 0 {
-            return i + 1;
-        }
-    }
-    table.len()
-}
+    ghost use Rattle.clause.specs.Clauses.{PassesClause, elements_left};
 
-// The first literal from an index on that stands: false ones are dropped.
-pub fn next_literal(table: &[i16], values: &[u16; Literal::VARIABLES], from: usize) -> Next
-    requires { Ready table.now values.now }
-    ensures { NextOf table.now values.now from result }
-{
-    for i in from..table.len() {
-        if literal::size_at(table, i) == 0 {
-            return Next::Closed;
-        }
-        let x = state::value_at(values, literal::literal_at(table, i));
-        if !x.same(Literal::FALSE) {
-            return Next::Stands(x, i + 1);
-        }
-    }
-    Next::Closed
-}
+    ghost next_gives = { PassesClause };
 
-// How often a literal stands in a clause.
-pub fn times_at(table: &[i16], values: &[u16; Literal::VARIABLES], from: usize, x: Literal) -> u16
-    requires { Ready table.now values.now }
-    ensures { result ≡ occurs x (clause_at table.now values.now from) }
-{
-    let mut times = 0;
-    let mut i = from;
-    loop {
-        let next = next_literal(table, values, i);
-        let Next::Stands(y, after) = next else {
-            return times;
-        };
-        if y.same(x) {
-            times += 1;
+    ghost remaining = { elements_left };
+
+    fn next(&mut self) -> Option<(ClauseNumber, usize)> {
+        let Clauses { of, clause, at } = *self;
+        if of.table.len() <= at {
+            return None;
         }
-        i = after;
+        self.clause = ClauseNumber(clause.0 + 1);
+        self.at = of.next_clause(at);
+        Some((clause, at))
     }
 }
 
-// How often each literal stands in a clause, by its code.
-pub fn counts_at(
-    table: &[i16],
-    values: &[u16; Literal::VARIABLES],
-    from: usize,
-) -> [u16; Literal::CODES]
-    requires { Ready table.now values.now }
-    ensures { CountsOf result (clause_at table.now values.now from) }
-{
-    let mut counts = [0u16; Literal::CODES];
-    let mut i = from;
-    loop {
-        let next = next_literal(table, values, i);
-        let Next::Stands(x, after) = next else {
-            return counts;
-        };
-        let k = x.code() as usize;
-        counts[k] += 1;
-        i = after;
+impl<'a> Iterator for Literals<'a> {
+    type Item = Literal;
+
+    ghost use Rattle.clause.specs.Literals.{left};
+
+    ghost next_gives = { YieldsFirst left };
+
+    ghost remaining = { item_count left };
+
+    fn next(&mut self) -> Option<Literal> {
+        let Standing { table, state } = self.of;
+        for i in self.at..table.len() {
+            let entry = Literal::from(table[i]);
+            if !entry.is_open() {
+                return None;
+            }
+            let x = state.value(entry);
+            if x != Literal::FALSE {
+                self.at = i + 1;
+                return Some(x);
+            }
+        }
+        None
     }
 }
 
-// How often a literal stands in the clause that was counted.
-fn counted(counts: &[u16; Literal::CODES], x: Literal) -> u16
-    requires { var x ≤ max_variables }
-    ensures { (c : Clause) → CountsOf counts.now c → result ≡ occurs x c }
-{
-    let k = x.code() as usize;
-    counts[k]
+impl<'a> Standing<'a> {
+    ghost use Rattle.clause.specs.Literals.{clause_of, left};
+
+    // The index after the 0 that closes the clause at `from`.
+    pub fn next_clause(self, from: usize) -> usize
+        requires { from ≤ length self.table.now }
+        ensures { result ≡ from + group_length (drop from self.entry.table.now) }
+    {
+        match first_zero(&self.table[from..]) {
+            Some(i) => from + i + 1,
+            None => self.table.len(),
+        }
+    }
+
+    pub fn clauses(self) -> Clauses<'a>
+        ensures of { result.of ≡ self.entry }
+        ensures clause { result.clause.0 ≡ 1 }
+        ensures at { result.at ≡ 0 }
+    {
+        Clauses {
+            of: self,
+            clause: ClauseNumber(1),
+            at: 0,
+        }
+    }
+
+    pub fn literals(self, from: usize) -> Literals<'a>
+        ensures { left result ≡ clause_of self.entry from }
+    {
+        Literals { of: self, at: from }
+    }
+
+    // How often a literal stands in a clause.
+    pub fn times(self, from: usize, x: Literal) -> usize
+        ensures { result ≡ occurs x (clause_of self.entry from) }
+    {
+        self.literals(from).filter(|y| *y == x).count()
+    }
+
+    pub fn count(self, at: usize) -> Counted<'a>
+        ensures of { result.of ≡ self.entry }
+        ensures at { result.at ≡ at }
+    {
+        let mut by_code = [0u16; Literal::CODES];
+        for x in self.literals(at) {
+            by_code[x.code() as usize] += 1;
+        }
+        Counted {
+            of: self,
+            at,
+            by_code,
+        }
+    }
+
+    // "live groups: none true, not at rest"
+    pub fn live(self, from: usize) -> bool
+        ensures { result ≡ live (clause_of self.entry from) }
+    {
+        if self.times(from, Literal::TRUE) != 0 {
+            return false;
+        }
+        let counted = self.count(from);
+        match counted.first(from, Test::Opposed) {
+            None => true,
+            Some(x) => counted.first(from, Test::Apart(x)).is_some(),
+        }
+    }
+}
+
+impl<'a> Counted<'a> {
+    ghost use Rattle.clause.specs.Finding.{passes};
+    ghost use Rattle.clause.specs.Literals.{clause_of, counted};
+
+    fn times(&self, x: Literal) -> u16
+        requires { var x ≤ max_variables }
+        ensures { result ≡ occurs x (counted self.now) }
+    {
+        self.by_code[x.code() as usize]
+    }
+
+    pub fn passes(&self, test: Test, x: Literal) -> bool
+        requires { var x ≤ max_variables }
+        ensures { result ≡ passes test (counted self.now) x }
+    {
+        let stands = |y: Literal| 0 < self.times(y);
+        match test {
+            Test::Open => x.is_open(),
+            Test::Twice => 2 <= self.times(x),
+            Test::Common => stands(x),
+            Test::Opposed => stands(x.opposite()),
+            Test::Apart(y) => differ(y, x),
+            Test::Partner(y) => stands(x.opposite()) && differ(y, x),
+            Test::Shared(y) => (stands(x) || stands(x.opposite())) && differ(y, x),
+        }
+    }
+
+    // The first literal of the clause at `from` that passes beside the counted one.
+    pub fn first(&self, from: usize, test: Test) -> Option<Literal>
+        ensures { result ≡ find (passes test (counted self.now)) (clause_of self.now.of from) }
+    {
+        self.of.literals(from).find(|x| self.passes(test, *x))
+    }
 }
 
 pub fn differ(x: Literal, y: Literal) -> bool
     ensures { result ≡ differ x y }
 {
-    x.variable().0 != y.variable().0
+    x.variable() != y.variable()
 }
 
-// Whether a literal stands in the clause that was counted, itself or by its opposite.
-fn shared(counts: &[u16; Literal::CODES], x: Literal) -> bool
-    requires { var x ≤ max_variables }
-    ensures { (c : Clause) → CountsOf counts.now c → result ≡ shares c x }
+// Where the first 0 stands.
+fn first_zero(rest: &[i16]) -> Option<usize>
+    ensures { result ≡ position (λ e. int_eq e (pos 0)) rest.now }
 {
-    if 0 < counted(counts, x) {
-        return true;
-    }
-    0 < counted(counts, x.opposite())
-}
-
-pub fn passes(test: Test, counts: &[u16; Literal::CODES], x: Literal) -> bool
-    requires { var x ≤ max_variables }
-    ensures { (c : Clause) → CountsOf counts.now c → result ≡ passes test c x }
-{
-    match test {
-        Test::Open => x.is_open(),
-        Test::Twice => 2 <= counted(counts, x),
-        Test::Common => 0 < counted(counts, x),
-        Test::Opposed => 0 < counted(counts, x.opposite()),
-        Test::Apart(y) => differ(y, x),
-        Test::Partner(y) => {
-            if 0 < counted(counts, x.opposite()) {
-                differ(y, x)
-            } else {
-                false
-            }
-        }
-        Test::Shared(y) => {
-            if shared(counts, x) {
-                differ(y, x)
-            } else {
-                false
-            }
-        }
-    }
-}
-
-pub fn first_that(
-    table: &[i16],
-    values: &[u16; Literal::VARIABLES],
-    from: usize,
-    counts: &[u16; Literal::CODES],
-    test: Test,
-) -> Found
-    requires { Ready table.now values.now }
-    ensures { FirstThat test counts.now (clause_at table.now values.now from) result }
-{
-    let mut i = from;
-    loop {
-        let next = next_literal(table, values, i);
-        let Next::Stands(x, after) = next else {
-            return Found::Nothing;
-        };
-        if passes(test, counts, x) {
-            return Found::At(x);
-        }
-        i = after;
-    }
-}
-
-// "live groups: none true, not at rest"
-pub fn live(table: &[i16], values: &[u16; Literal::VARIABLES], from: usize) -> bool
-    requires { Ready table.now values.now }
-    ensures { result ≡ live (clause_at table.now values.now from) }
-{
-    if times_at(table, values, from, Literal::TRUE) != 0 {
-        return false;
-    }
-    let counts = counts_at(table, values, from);
-    let complementary = first_that(table, values, from, &counts, Test::Opposed);
-    let Found::At(x) = complementary else {
-        return true;
-    };
-    let other = first_that(table, values, from, &counts, Test::Apart(x));
-    match other {
-        Found::Nothing => false,
-        Found::At(_) => true,
-    }
+    rest.iter().position(|entry| *entry == 0)
 }

@@ -1,5 +1,5 @@
 -- The walk round a class that becomes a constant: what holds at the loop's head, at the start, after a turn, at a dead end and at the end.
-use mathlib.Core.Path.{◌≡◌, refl, ap, sym, ◌∙◌, fun_ext, subst}
+use mathlib.Core.Path.{◌≡◌, refl, ap, sym, ◌∙◌, fun_ext}
 use mathlib.Core.Bool.{false}
 use mathlib.Core.Logic.{◌⊎◌, inl, inr}
 use mathlib.Core.List.{List}
@@ -11,7 +11,7 @@ use lib.Dec.{eqb}
 use lib.ListN.{get_or, set, length}
 use Rattle.general.specs.Booleans.{bit}
 use Rattle.general.specs.Bits.{bit_le}
-use Rattle.literal.specs.Literal.{FALSE, var, opposite, code_of, literal_at, max_variables, max_table, variables}
+use Rattle.literal.specs.Literal.{FALSE, var, opposite, code_of, literal_at, max_variables, variables}
 use Rattle.literal.proofs.Codes.{code_of_literal_at, var_at}
 use Rattle.theory.specs.State.{replace, assign}
 use Rattle.theory.proofs.Literals.{of_variable_lem}
@@ -19,19 +19,21 @@ use Rattle.theory.proofs.States.{replace_same, replace_opposite_same}
 use Rattle.state.specs.State.{state_of}
 use Rattle.state.proofs.Values.{state_of_inside, state_of_past}
 use Rattle.occurrences.specs.Index.{width}
-use Rattle.tally.specs.Tally.{Tally, tally_of, state_in}
+use Rattle.tally.specs.Tally.{state_in}
 use Rattle.tally.specs.Ring.{Classes}
 use Rattle.tally.specs.Counts.{roots}
 use Rattle.tally.proofs.Loads.{load_set}
 use Rattle.tally.proofs.Rings.{size, Agreeing, Round, round_begins, member_of, member_inside, agrees, falls, round_ends, round_goes}
 use Rattle.tally.proofs.Turned.{ring_kept, classes_turned, roots_turned}
-use Rattle.notes.specs.Notes.{Notes, notes_of, Whole}
 use Rattle.moves.specs.Sound.{Sound}
 use Rattle.moves.specs.Moving.{Moved}
 use Rattle.moves.specs.Deciding.{DeadIn, Decidable, Decided}
 use Rattle.decide.specs.Members.{Taken, Membering}
 use Rattle.decide.proofs.Noting.{adding_none, taken_trans}
 use Rattle.decide.proofs.Members.{dead_stays}
+use Rattle.occurrences.specs.declared.Index.{Index}
+use Rattle.tally.specs.declared.Tally.{Tally}
+use Rattle.notes.specs.declared.Notes.{Notes}
 
 -- what a member of the class becomes
 turned_value : (y x : ℕ) → y / 2 ≡ x / 2 → bit (eqb y x) ≡ code_of (replace (literal_at x) FALSE (literal_at y))
@@ -54,41 +56,41 @@ agree_state x v w h = fun_ext (λ p. elim (dec_le p max_variables) [
 ])
 
 -- the walk has reached member p with state u and notes m
-pub record Turning (ix st wk : List ℕ) (x : ℕ) (u : Tally) (m : Notes) (p : ℕ) : Type 0 where
+pub record Turning (ix : Index) (st : Tally) (wk : Notes) (x : ℕ) (u : Tally) (m : Notes) (p : ℕ) : Type 0 where
   pub asked : Decidable ix st wk x
-  pub round : Round (tally_of st).links (tally_of st).values x FALSE u.values p
-  pub taken : Taken ix (tally_of st) (notes_of wk) u m
+  pub round : Round st.links st.values x FALSE u.values p
+  pub taken : Taken ix st wk u m
 
-pub turning_begins : {ix st wk : List ℕ} {x : ℕ} → Decidable ix st wk x → (m : Notes) → m ≡ notes_of wk → Turning ix st wk x (tally_of st) m (x / 2)
-turning_begins {ix} {st} {wk} {x} d m e = rw e (record {
+pub turning_begins : {ix : Index} {st : Tally} {wk : Notes} {x : ℕ} → Decidable ix st wk x → Turning ix st wk x st wk (x / 2)
+turning_begins {x = x} d = record {
   asked = d;
   round = round_begins (d.sound.classes.rings (x / 2) (omega (arith, d.opened)) d.root) d.sound.exact.long_values;
   taken = record { exact = d.sound.exact; adding = adding_none; paid = omega arith };
-})
+}
 
 -- the end: all is sound again
-module _ {ix st wk : List ℕ} {x : ℕ} (d : Decidable ix st wk x) (st' wk' : List ℕ) (is : state_in st' ≡ assign (literal_at x) FALSE (state_in st))
-    (t : Taken ix (tally_of st) (notes_of wk) (tally_of st') (notes_of wk')) (whole : Whole wk') where
+module _ {ix : Index} {st : Tally} {wk : Notes} {x : ℕ} (d : Decidable ix st wk x) (st' : Tally) (wk' : Notes) (is : state_in st' ≡ assign (literal_at x) FALSE (state_in st))
+    (t : Taken ix st wk st' wk') where
   s : Sound ix st wk
   s = d.sound
 
-  long : length (tally_of st).values ≡ variables
+  long : length st.values ≡ variables
   long = s.exact.long_values
 
-  long' : length (tally_of st').values ≡ variables
+  long' : length st'.values ≡ variables
   long' = t.exact.long_values
 
   apart : 0 ≡ x / 2 → ⊥
   apart e = omega (arith, d.opened)
 
-  classes : Classes (tally_of st').values (tally_of st).links
+  classes : Classes st'.values st.links
   classes =
-      classes_turned (tally_of st).values (tally_of st').values x FALSE long long' is d.opened d.below d.root apart (omega arith) s.classes.base s.classes
-      (λ r o n e. ring_kept (tally_of st).values (tally_of st').values x FALSE long long' is (tally_of st).links r n (λ q. omega arith) (s.classes.rings r o e))
+      classes_turned st.values st'.values x FALSE long long' is d.opened d.below d.root apart (omega arith) s.classes.base s.classes
+      (λ r o n e. ring_kept st.values st'.values x FALSE long long' is st.links r n (λ q. omega arith) (s.classes.rings r o e))
 
-  fewer : roots (tally_of st').values max_variables + 1 ≡ roots (tally_of st).values max_variables
+  fewer : roots st'.values max_variables + 1 ≡ roots st.values max_variables
   fewer =
-      roots_turned (tally_of st).values (tally_of st').values x FALSE long long' is d.opened d.below d.root apart (omega arith) s.classes.base
+      roots_turned st.values st'.values x FALSE long long' is d.opened d.below d.root apart (omega arith) s.classes.base
       max_variables (omega arith) (omega (arith, d.below))
 
   sound : Sound ix st' wk'
@@ -97,10 +99,9 @@ module _ {ix st wk : List ℕ} {x : ℕ} (d : Decidable ix st wk x) (st' wk' : L
     exact = t.exact;
     linked = ap length t.adding.links ∙ s.linked;
     classes = rw t.adding.links classes;
-    whole = whole;
     todo_room = omega (arith, t.paid, s.todo_room);
     blocks_room = omega (arith, t.adding.blocks_end, s.blocks_room, fewer);
-    todo_inside = λ i h. elim (dec_lt i (notes_of wk).todo_end) [
+    todo_inside = λ i h. elim (dec_lt i wk.todo_end) [
       | yes b ↦ rw (t.adding.kept i b) (s.todo_inside i b)
       | no b ↦ t.adding.fresh i (omega arith) h
     ];
@@ -120,7 +121,7 @@ module _ {ix st wk : List ℕ} {x : ℕ} (d : Decidable ix st wk x) (st' wk' : L
   }
 
 -- one member
-module _ {ix st wk : List ℕ} {x : ℕ} {u : Tally} {m : Notes} {p : ℕ} (t : Turning ix st wk x u m p) where
+module _ {ix : Index} {st : Tally} {wk : Notes} {x : ℕ} {u : Tally} {m : Notes} {p : ℕ} (t : Turning ix st wk x u m p) where
   opened : 1 < x
   opened = t.asked.opened
 
@@ -159,7 +160,7 @@ module _ {ix st wk : List ℕ} {x : ℕ} {u : Tally} {m : Notes} {p : ℕ} (t : 
     module _ (w : List ℕ) (set_to : w ≡ set u.values p to) where
       pub turning_dead : DeadIn ix (state_of w) → DeadIn ix (assign (literal_at x) FALSE (state_in st))
       turning_dead d =
-          rw (← agree_state x (tally_of st).values w (rw set_to (agrees opened t.round apart' to code)))
+          rw (← agree_state x st.values w (rw set_to (agrees opened t.round apart' to code)))
           (dead_stays (literal_at x) (omega (arith, var_at x, opened)) ix (state_of w) d)
 
       pub turning_falls : size (x / 2) w variables < size (x / 2) u.values variables
@@ -167,14 +168,11 @@ module _ {ix st wk : List ℕ} {x : ℕ} {u : Tally} {m : Notes} {p : ℕ} (t : 
 
     module _ (u' : Tally) (set_to : u'.values ≡ set u.values p to) where
       module _ {m' : Notes} (more : Taken ix u m u' m') where
-        all : Taken ix (tally_of st) (notes_of wk) u' m'
+        all : Taken ix st wk u' m'
         all = taken_trans t.taken more
 
-        pub end_low : m'.todo_end ≤ max_table
-        end_low = omega (arith, all.paid, t.asked.sound.todo_room)
-
         module _ (n : ℕ) (next : n ≡ get_or u'.links p 0) where
-          link : n ≡ get_or (tally_of st).links p 0
+          link : n ≡ get_or st.links p 0
           link = next ∙ rw all.adding.links
 
           pub turning_goes : (n ≡ x / 2 → ⊥) → Turning ix st wk x u' m' n
@@ -184,9 +182,8 @@ module _ {ix st wk : List ℕ} {x : ℕ} {u : Tally} {m : Notes} {p : ℕ} (t : 
           state_is : n ≡ x / 2 → state_of u'.values ≡ assign (literal_at x) FALSE (state_in st)
           state_is back = rw set_to (round_ends opened t.round apart' to code n link t.asked.below back)
 
-pub turning_ends : {ix st wk : List ℕ} {x : ℕ} {u : Tally} {m : Notes} {p : ℕ} (t : Turning ix st wk x u m p) (to : ℕ) → to ≡ bit (eqb (get_or u.values p 0) x) →
-    (st' : List ℕ) → (tally_of st').values ≡ set u.values p to → {m' : Notes} → Taken ix u m (tally_of st') m' → (n : ℕ) → n ≡ get_or (tally_of st').links p 0 → n ≡ x / 2 →
-    (wk' : List ℕ) → notes_of wk' ≡ m' → Whole wk' → Decided ix st wk x st' wk' false
-turning_ends {ix} {st} {wk} {x} {u} {m} {p} t to is st' set_to {m'} more n next back wk' e whole =
-    let i : state_in st' ≡ assign (literal_at x) FALSE (state_in st) = state_is t to is (tally_of st') set_to more n next back in
-    (i, moved t.asked st' wk' i (subst (λ (k : Notes). Taken ix (tally_of st) (notes_of wk) (tally_of st') k) (sym e) (all t to is (tally_of st') set_to more)) whole)
+pub turning_ends : {ix : Index} {st : Tally} {wk : Notes} {x : ℕ} {u : Tally} {m : Notes} {p : ℕ} (t : Turning ix st wk x u m p) (to : ℕ) → to ≡ bit (eqb (get_or u.values p 0) x) →
+    (st' : Tally) → st'.values ≡ set u.values p to → {wk' : Notes} → Taken ix u m st' wk' → (n : ℕ) → n ≡ get_or st'.links p 0 → n ≡ x / 2 → Decided ix st wk x st' wk' false
+turning_ends {ix} {st} {wk} {x} t to is st' set_to {wk'} more n next back =
+    let i : state_in st' ≡ assign (literal_at x) FALSE (state_in st) = state_is t to is st' set_to more n next back in
+    (i, moved t.asked st' wk' i (all t to is st' set_to more))

@@ -24,13 +24,14 @@ use Rattle.theory.proofs.States.{replace_other, value_assign}
 use Rattle.state.specs.State.{state_of}
 use Rattle.state.proofs.Values.{state_of_inside, state_of_past}
 use Rattle.occurrences.specs.Index.{clause_count, clause_of, occurrences}
-use Rattle.tally.specs.Tally.{Tally}
 use Rattle.tally.specs.Counts.{trues_of, opens_of, Exact}
 use Rattle.tally.proofs.Standing.{opens_length, clause_length}
-use Rattle.notes.specs.Notes.{Notes}
 use Rattle.moves.specs.Deciding.{DeadIn}
 use Rattle.decide.specs.Members.{Membering}
 use Rattle.decide.proofs.Lagging.{Lagging}
+use Rattle.occurrences.specs.declared.Index.{Index}
+use Rattle.tally.specs.declared.Tally.{Tally}
+use Rattle.notes.specs.declared.Notes.{Notes}
 
 -- clauses --------------------------------------------------------------------------------------------------------
 
@@ -124,10 +125,10 @@ signs to h = elim (dec_eq to 0) [
 ]
 
 -- opens and trues of the index's clauses
-abbrev pub Lags : (ix v : List ℕ) → ℕ → (k rest : List ℕ) → Type 0
+abbrev pub Lags : (ix : Index) (v : List ℕ) → ℕ → (k rest : List ℕ) → Type 0
 Lags ix v to k rest = Lagging (clause_count ix) (λ g. opens_of (state_of v) (clause_of ix g)) (λ g. trues_of (state_of v) (clause_of ix g)) to k rest
 
-module _ {ix : List ℕ} {t : Tally} {n : Notes} {p to : ℕ} (m : Membering ix t n p to) where
+module _ {ix : Index} {t : Tally} {n : Notes} {p to : ℕ} (m : Membering ix t n p to) where
   long : length t.values ≡ variables
   long = m.exact.long_values
 
@@ -160,7 +161,7 @@ module _ {ix : List ℕ} {t : Tally} {n : Notes} {p to : ℕ} (m : Membering ix 
     low = m.exact.low;
   }
 
-pub finished : (ix v k : List ℕ) (to : ℕ) → length v ≡ variables → length k ≡ max_clauses → Lags ix v to k [] → Exact ix v k
+pub finished : (ix : Index) (v k : List ℕ) (to : ℕ) → length v ≡ variables → length k ≡ max_clauses → Lags ix v to k [] → Exact ix v k
 unfolding times
 finished ix v k to lv lk l = record { long_values = lv; long_counts = lk; is = λ g h. omega (arith, l.sum g h); low = l.low }
 
@@ -198,7 +199,7 @@ module _ (x : Literal) (opened : 0 < var x) where
   left_falls s [] = omega arith
   left_falls s (l ∷ c) = rw (value_assign s x FALSE l) (omega (arith, weight_falls (value s l), left_falls s c))
 
-  pub dead_stays : (ix : List ℕ) (s : State) → DeadIn ix s → DeadIn ix (assign x FALSE s)
+  pub dead_stays : (ix : Index) (s : State) → DeadIn ix s → DeadIn ix (assign x FALSE s)
   dead_stays ix s d = record { clause = d.clause; inside = d.inside; dead = go (clause_of ix d.clause) d.dead }
     where
       go : (c : Clause) → (2 ≤ trues_of s c) ⊎ (opens_of s c + trues_of s c ≡ 0) →

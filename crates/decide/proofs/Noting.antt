@@ -1,7 +1,6 @@
 -- Notes go together, and one occurrence notes what it must.
 use mathlib.Core.Path.{◌≡◌, refl, ◌∙◌}
 use mathlib.Core.Bool.{Bool, true, false, ◌||◌}
-use mathlib.Core.List.{List}
 use Prim.Native.Nat.{ℕ, ◌+◌, ◌-◌, ◌/◌, ◌%◌, ◌≤◌, ◌<◌}
 use native.Mathlib.Decide.{dec_lt, ℕ_discrete as dec_eq}
 use native.Mathlib.Omega.{arith}
@@ -11,12 +10,15 @@ use lib.ListN.{get_or, set, length}
 use lib.Seq.{get_or-set_same, get_or-set_other}
 use Rattle.general.specs.Bits.{bit_le}
 use Rattle.occurrences.specs.Index.{clause_count}
-use Rattle.tally.specs.Tally.{Tally, with_value, with_count}
+use Rattle.tally.specs.Tally.{with_value, with_count}
 use Rattle.tally.specs.Counts.{one_true}
-use Rattle.notes.specs.Notes.{Notes, Noted, with_todo, with_todo_end}
+use Rattle.notes.specs.Notes.{Noted, with_todo, with_todo_end}
 use Rattle.decide.specs.Members.{recount_of, noting, Adding, Taken}
+use Rattle.occurrences.specs.declared.Index.{Index}
+use Rattle.tally.specs.declared.Tally.{Tally}
+use Rattle.notes.specs.declared.Notes.{Notes}
 
-pub adding_none : {ix : List ℕ} {t : Tally} {n : Notes} → Adding ix t n t n
+pub adding_none : {ix : Index} {t : Tally} {n : Notes} → Adding ix t n t n
 adding_none = record {
   grows = omega arith;
   kept = λ i h. refl;
@@ -30,7 +32,7 @@ adding_none = record {
   gathered = refl;
 }
 
-module _ {ix : List ℕ} {t : Tally} {n : Notes} {u : Tally} {m : Notes} {v : Tally} {o : Notes} (a : Adding ix t n u m) (b : Adding ix u m v o) where
+module _ {ix : Index} {t : Tally} {n : Notes} {u : Tally} {m : Notes} {v : Tally} {o : Notes} (a : Adding ix t n u m) (b : Adding ix u m v o) where
   early : (g : ℕ) → Noted m n.todo_end g → Noted o n.todo_end g
   early g i = (i.0, i.1, omega (arith, i.2, b.grows), b.kept i.0 i.2 ∙ i.3)
 
@@ -61,7 +63,7 @@ module _ {ix : List ℕ} {t : Tally} {n : Notes} {u : Tally} {m : Notes} {v : Ta
   }
 
 -- no matter what the values were
-pub adding_valued : {ix : List ℕ} (t : Tally) {n : Notes} (p to : ℕ) {u : Tally} {m : Notes} → Adding ix (with_value p to t) n u m → Adding ix t n u m
+pub adding_valued : {ix : Index} (t : Tally) {n : Notes} (p to : ℕ) {u : Tally} {m : Notes} → Adding ix (with_value p to t) n u m → Adding ix t n u m
 adding_valued t p to a = record {
   grows = a.grows;
   kept = a.kept;
@@ -75,11 +77,11 @@ adding_valued t p to a = record {
   gathered = a.gathered;
 }
 
-pub taken_trans : {ix : List ℕ} {t : Tally} {n : Notes} {u : Tally} {m : Notes} {v : Tally} {o : Notes} → Taken ix t n u m → Taken ix u m v o → Taken ix t n v o
+pub taken_trans : {ix : Index} {t : Tally} {n : Notes} {u : Tally} {m : Notes} {v : Tally} {o : Notes} → Taken ix t n u m → Taken ix u m v o → Taken ix t n v o
 taken_trans a b = record { exact = b.exact; adding = adding_trans a.adding b.adding; paid = omega (arith, a.paid, b.paid) }
 
 -- one occurrence: the count of its clause becomes c, and the clause is written past the end of the list, which may grow by it
-module _ (ix : List ℕ) (t : Tally) (n : Notes) (o to c : ℕ) (is : c ≡ recount_of (get_or t.counts (o / 2) 0) o to) (inside : o / 2 < clause_count ix)
+module _ (ix : Index) (t : Tally) (n : Notes) (o to c : ℕ) (is : c ≡ recount_of (get_or t.counts (o / 2) 0) o to) (inside : o / 2 < clause_count ix)
     (some : 0 < c) (counted : o / 2 < length t.counts) (fits : n.todo_end < length n.todo) where
   abbrev after : Notes
   after = with_todo_end (n.todo_end + noting c o to) (with_todo n.todo_end (o / 2) n)

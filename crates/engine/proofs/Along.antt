@@ -1,7 +1,7 @@
 -- What steps keep of a clause; the steps of clearing a clause with a true literal.
 use mathlib.Core.Path.{◌≡◌, refl, ap, sym, ◌∙◌}
 use mathlib.Core.Logic.{inl, ◌≢◌}
-use mathlib.Core.List.{List, Memᴰ}
+use mathlib.Core.List.{Memᴰ}
 use Prim.Native.Nat.{ℕ, ◌≤◌, ◌<◌}
 use native.Mathlib.Omega.{arith}
 use Rattle.literal.specs.declared.Literal.{Literal}
@@ -25,9 +25,10 @@ use Rattle.occurrences.specs.Index.{Indexed, code_at, start_at, clause_of, formu
 use Rattle.occurrences.proofs.Formulas.{formula_mem}
 use Rattle.moves.specs.Deciding.{Clearing, cleared, clears}
 use Rattle.engine.specs.Short.{Resting}
+use Rattle.occurrences.specs.declared.Index.{Index}
 
 -- the literals of an index are of variables from 1 on
-pub within_indexed : {ix : List ℕ} → Indexed ix → Within max_variables (formula_of ix)
+pub within_indexed : {ix : Index} → Indexed ix → Within max_variables (formula_of ix)
 within_indexed {ix} index = record { low = λ c l mc ml. (bounds c l mc ml).0; high = λ c l mc ml. (bounds c l mc ml).1 }
   where
     bounds : (c : Clause) (l : Literal) → Memᴰ c (formula_of ix) → Memᴰ l c → (0 < var l) × (var l ≤ max_variables)

@@ -1,7 +1,6 @@
 -- Where no rule fits the lists may be empty, and after a decision from there propagation is ready again.
 use mathlib.Core.Path.{◌≡◌, refl}
 use mathlib.Core.Logic.{inl, inr}
-use mathlib.Core.List.{List}
 use Prim.Native.Nat.{ℕ, ◌≤◌, ◌<◌}
 use native.Mathlib.Omega.{arith}
 use Rattle.literal.specs.Literal.{FALSE, var, literal_at, max_variables}
@@ -17,14 +16,16 @@ use Rattle.theory.proofs.ByCount.{ByCount, all_true, two_open, three_open}
 use Rattle.occurrences.specs.Index.{clause_count, clause_of, formula_of}
 use Rattle.tally.specs.Tally.{state_in, count_in}
 use Rattle.tally.proofs.Standing.{counted, wide_three, wide_low}
-use Rattle.notes.specs.Notes.{notes_of}
 use Rattle.moves.specs.Sound.{Sound}
 use Rattle.moves.specs.Moving.{Moved}
 use Rattle.engine.specs.Short.{Unit, Resting, Short}
 use Rattle.engine.specs.Ready.{Ready}
 use Rattle.engine.proofs.Shorts.{short_kept}
+use Rattle.occurrences.specs.declared.Index.{Index}
+use Rattle.tally.specs.declared.Tally.{Tally}
+use Rattle.notes.specs.declared.Notes.{Notes}
 
-module _ {ix st wk : List ℕ} (sound : Sound ix st wk) (rests : (g : ℕ) → g < clause_count ix → ByCount (standing (state_in st) (clause_of ix g))) where
+module _ {ix : Index} {st : Tally} {wk : Notes} (sound : Sound ix st wk) (rests : (g : ℕ) → g < clause_count ix → ByCount (standing (state_in st) (clause_of ix g))) where
   module _ (g : ℕ) (i : g < clause_count ix) where
     never : ByCount (standing (state_in st) (clause_of ix g)) → 0 < count_in st g
     never (all_true z o) = omega (arith, counted sound.index sound.exact g i)
@@ -52,8 +53,8 @@ module _ {ix st wk : List ℕ} (sound : Sound ix st wk) (rests : (g : ℕ) → g
   }
 
   -- a side of a split: an open literal was decided
-  pub ready_decided : (notes_of wk).blocks_end ≡ 0 → WellFormed max_variables (state_in st) → DistinctBut (λ p. ⊥) (formula_of ix) (state_in st) → Paired (λ g h. ⊥) (formula_of ix) (state_in st) →
-      {st' wk' : List ℕ} {x : ℕ} → 1 < x → state_in st' ≡ assign (literal_at x) FALSE (state_in st) → Moved ix st wk st' wk' → WellFormed max_variables (state_in st') → Ready ix st' wk' 0 0
+  pub ready_decided : wk.blocks_end ≡ 0 → WellFormed max_variables (state_in st) → DistinctBut (λ p. ⊥) (formula_of ix) (state_in st) → Paired (λ g h. ⊥) (formula_of ix) (state_in st) →
+      {st' : Tally} {wk' : Notes} {x : ℕ} → 1 < x → state_in st' ≡ assign (literal_at x) FALSE (state_in st) → Moved ix st wk st' wk' → WellFormed max_variables (state_in st') → Ready ix st' wk' 0 0
   ready_decided none well distinct pairs {st'} {wk'} {x} o is m well' = record {
     sound = m.went.sound;
     well = well';

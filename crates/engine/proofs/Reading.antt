@@ -2,33 +2,34 @@
 use mathlib.Core.Path.{◌≡◌, refl, ap, sym, ◌∙◌}
 use mathlib.Core.Logic.{⊎_elim}
 use mathlib.Core.List.{List, ◌∷◌, Memᴰ}
-use Prim.Native.Nat.{ℕ, ◌+◌, ◌-◌, ◌/◌, ◌≤◌, ◌<◌}
+use Prim.Native.Nat.{ℕ, suc, ◌+◌, ◌-◌, ◌/◌, ◌≤◌, ◌<◌}
+use native.Mathlib.Numerals.{add-one}
 use native.Mathlib.Omega.{arith}
 use native.Mathlib.Decide.{dec_lt}
 use Rattle.general.specs.Counting.{count}
+use Rattle.general.specs.Lists.{from}
 use Rattle.literal.specs.declared.Literal.{Literal}
-use Rattle.literal.specs.Literal.{TRUE, FALSE, var, code_of, max_variables, codes, max_table}
+use Rattle.literal.specs.Literal.{TRUE, FALSE, var, code_of, max_variables, codes}
 use Rattle.literal.proofs.Codes.{var_at, var_code}
 use Rattle.theory.specs.State.{value, stand, standing}
 use Rattle.theory.proofs.Literals.{constant, same_ne}
 use Rattle.theory.proofs.Clauses.{mem_occurs}
 use Rattle.occurrences.specs.Index.{clause_count, code_at, start_at}
-use Rattle.tally.specs.Tally.{tally_of, state_in, value_in}
+use Rattle.tally.specs.Tally.{state_in, value_in}
 use Rattle.moves.specs.Sound.{Sound}
 use Rattle.theory.proofs.States.{value_variable}
 use Rattle.gather.proofs.Written.{stands_for}
-use Rattle.meet.proofs.Reading.{rest_none, rest_cons}
 use Rattle.engine.specs.Reading.{Legible, written, rest, Opens, FirstOpen, OpenCode}
+use Rattle.occurrences.specs.declared.Index.{Index}
+use Rattle.tally.specs.declared.Tally.{Tally}
+use Rattle.notes.specs.declared.Notes.{Notes}
 
-pub legible : {ix st wk : List ℕ} → Sound ix st wk → Legible ix st
+pub legible : {ix : Index} {st : Tally} {wk : Notes} → Sound ix st wk → Legible ix st
 legible s = record { index = s.index; exact = s.exact; classes = s.classes }
 
 -- the code of what stands at a place of a clause, where that is open, is of an open root
-module _ {ix st : List ℕ} (k : Legible ix st) (g : ℕ) (inside : g < clause_count ix) (i : ℕ) (begins : start_at ix g ≤ i) (before : i < start_at ix (g + 1) - 1) where
-  pub place_low : i < max_table
-  place_low = omega (arith, k.index.stops (g + 1) (omega arith))
-
-  pub code_known : code_at ix i < codes
+module _ {ix : Index} {st : Tally} (k : Legible ix st) (g : ℕ) (inside : g < clause_count ix) (i : ℕ) (begins : start_at ix g ≤ i) (before : i < start_at ix (g + 1) - 1) where
+  code_known : code_at ix i < codes
   code_known = (k.index.known g i inside begins before).1
 
   pub open_code : (x : ℕ) → x ≡ code_of (value (state_in st) (written ix i)) → 0 < var (value (state_in st) (written ix i)) → OpenCode st x
@@ -36,23 +37,23 @@ module _ {ix st : List ℕ} (k : Legible ix st) (g : ℕ) (inside : g < clause_c
       let l : Literal = written ix i in
       let b : var l ≤ max_variables = omega (arith, var_at (code_at ix i), code_known) in
       let c = var_code (value (state_in st) l) in
-      let h : x / 2 ≡ value_in st (var l) / 2 = ap (λ (j : ℕ). j / 2) e ∙ sym c ∙ value_variable (state_in st) l ∙ stands_for (tally_of st).values (var l) b in
+      let h : x / 2 ≡ value_in st (var l) / 2 = ap (λ (j : ℕ). j / 2) e ∙ sym c ∙ value_variable (state_in st) l ∙ stands_for st.values (var l) b in
       record { opened = omega arith; below = omega (arith, k.classes.range (var l) b); root = rw h (k.classes.rooted (var l) b) }
 
 -- the walk to the next open literal ------------------------------------------------------------------------------------
 
-module _ {ix st : List ℕ} {g i : ℕ} (o : Opens ix st g i) where
+module _ {ix : Index} {st : Tally} {g i : ℕ} (o : Opens ix st g i) where
   -- where something is open the clause has not ended
-  pub opens_before : i < start_at ix (g + 1) - 1
-  unfolding standing count
+  opens_before : i < start_at ix (g + 1) - 1
+  unfolding standing count from
   opens_before = elim (dec_lt i (start_at ix (g + 1) - 1)) [
     | yes h ↦ h
-    | no h ↦ absurd (omega (arith, rw (rest_none ix i (start_at ix (g + 1) - 1) (omega arith)) at o.some_open))
+    | no h ↦ let z : start_at ix (g + 1) - 1 - i ≡ 0 = omega arith in absurd (omega (arith, rw z at o.some_open))
   ]
 
   stands_here : standing (state_in st) (rest ix g i) ≡ stand (value (state_in st) (written ix i)) (standing (state_in st) (rest ix g (i + 1)))
-  unfolding standing
-  stands_here = ap (standing (state_in st)) (rest_cons ix i (start_at ix (g + 1) - 1) opens_before)
+  unfolding standing from
+  stands_here = let e : start_at ix (g + 1) - 1 - i ≡ suc (start_at ix (g + 1) - 1 - (i + 1)) = omega (arith, opens_before) in rw (e, add-one i)
 
   stands_open : 0 < var (value (state_in st) (written ix i)) → standing (state_in st) (rest ix g i) ≡ value (state_in st) (written ix i) ∷ standing (state_in st) (rest ix g (i + 1))
   stands_open h = stands_here ∙ rw (same_ne (value (state_in st) (written ix i)) FALSE (λ e. omega (arith, ap var e)))
@@ -67,15 +68,16 @@ module _ {ix st : List ℕ} {g i : ℕ} (o : Opens ix st g i) where
       (constant (value (state_in st) (written ix i)) z)
 
 -- nothing open stands from place i on to place j
-pub record Walk (ix st : List ℕ) (g i j : ℕ) : Type 0 where
+pub record Walk (ix : Index) (st : Tally) (g i j : ℕ) : Type 0 where
   pub begins : i ≤ j
+  pub before : j < start_at ix (g + 1) - 1
   pub left : Opens ix st g j
   pub same : standing (state_in st) (rest ix g i) ≡ standing (state_in st) (rest ix g j)
 
-pub walk_begins : {ix st : List ℕ} {g i : ℕ} → Opens ix st g i → Walk ix st g i i
-walk_begins o = record { begins = omega arith; left = o; same = refl }
+pub walk_begins : {ix : Index} {st : Tally} {g i : ℕ} → Opens ix st g i → Walk ix st g i i
+walk_begins o = record { begins = omega arith; before = opens_before o; left = o; same = refl }
 
-module _ {ix st : List ℕ} {g i j : ℕ} (w : Walk ix st g i j) (x : ℕ) (is : x ≡ code_of (value (state_in st) (written ix j))) where
+module _ {ix : Index} {st : Tally} {g i j : ℕ} (w : Walk ix st g i j) (x : ℕ) (is : x ≡ code_of (value (state_in st) (written ix j))) where
   var_is : x / 2 ≡ var (value (state_in st) (written ix j))
   var_is = ap (λ (k : ℕ). k / 2) is ∙ sym (var_code (value (state_in st) (written ix j)))
 
@@ -83,19 +85,16 @@ module _ {ix st : List ℕ} {g i j : ℕ} (w : Walk ix st g i j) (x : ℕ) (is :
   walk_goes h =
       let o = w.left in
       let e = stands_later o (omega (arith, var_is)) in
-      record {
-        begins = omega (arith, w.begins);
-        left = record {
-          legible = o.legible;
-          inside = o.inside;
-          begins = omega (arith, o.begins);
-          none_true = rw e at o.none_true;
-          some_open = rw e at o.some_open;
-        };
-        same = w.same ∙ e;
-      }
+      let left : Opens ix st g (j + 1) = record {
+        legible = o.legible;
+        inside = o.inside;
+        begins = omega (arith, o.begins);
+        none_true = rw e at o.none_true;
+        some_open = rw e at o.some_open;
+      } in
+      record { begins = omega (arith, w.begins); before = opens_before left; left = left; same = w.same ∙ e }
 
   pub walk_ends : 2 ≤ x → FirstOpen ix st g i j
   walk_ends h =
       let o : 0 < var (value (state_in st) (written ix j)) = omega (arith, var_is) in
-      record { begins = w.begins; before = opens_before w.left; opened = o; splits = w.same ∙ stands_open w.left o }
+      record { begins = w.begins; before = w.before; opened = o; splits = w.same ∙ stands_open w.left o }

@@ -2,7 +2,7 @@
 use mathlib.Core.Path.{◌≡◌, refl, ap, sym, ◌∙◌}
 use mathlib.Core.Bool.{Bool, true, false}
 use mathlib.Core.Logic.{inl, inr, ⊎_elim}
-use mathlib.Core.List.{List, Memᴰ}
+use mathlib.Core.List.{Memᴰ}
 use Prim.Native.Nat.{ℕ, ◌/◌, ◌≤◌, ◌<◌}
 use native.Mathlib.Decide.{dec_lt}
 use native.Mathlib.Omega.{arith}
@@ -31,8 +31,11 @@ use Rattle.engine.specs.Reading.{OpenEntry}
 use Rattle.engine.specs.Turning.{UnitOf}
 use Rattle.moves.proofs.Dying.{dies_in, fallen_dies}
 use Rattle.engine.proofs.Along.{clearing_falls}
+use Rattle.occurrences.specs.declared.Index.{Index}
+use Rattle.tally.specs.declared.Tally.{Tally}
+use Rattle.notes.specs.declared.Notes.{Notes}
 
-module _ {ix st wk : List ℕ} (sound : Sound ix st wk) (g : ℕ) (inside : g < clause_count ix) where
+module _ {ix : Index} {st : Tally} {wk : Notes} (sound : Sound ix st wk) (g : ℕ) (inside : g < clause_count ix) where
   -- with nothing open neither rule fits
   spent : open_count (standing (state_in st) (clause_of ix g)) ≡ 0 → ¬ Unit st g
   spent z (inl e) = omega (arith, count_opens sound.index sound.exact g inside (omega arith))
@@ -42,7 +45,7 @@ module _ {ix st wk : List ℕ} (sound : Sound ix st wk) (g : ℕ) (inside : g < 
   unit_left a b = (still, moved_refl sound, ⊎_elim a (λ l. omega arith))
 
 -- the one open literal x becomes true: its opposite y becomes false
-module _ {ix st wk : List ℕ} (sound : Sound ix st wk) (g : ℕ) (inside : g < clause_count ix) (one : count_in st g ≡ 1)
+module _ {ix : Index} {st : Tally} {wk : Notes} (sound : Sound ix st wk) (g : ℕ) (inside : g < clause_count ix) (one : count_in st g ≡ 1)
     (x y : ℕ) (entry : OpenEntry ix st g x) (is : literal_at y ≡ opposite (literal_at x)) where
   half : y / 2 ≡ x / 2
   half = sym (var_at y) ∙ ap var is ∙ var_opposite (literal_at x) ∙ var_at x
@@ -63,8 +66,8 @@ module _ {ix st wk : List ℕ} (sound : Sound ix st wk) (g : ℕ) (inside : g < 
       (asks_only (standing (state_in st) (clause_of ix g)) (standing_no_false (state_in st) (clause_of ix g)) (literal_at x)
       (count_none_true sound.index sound.exact g inside (omega arith)) opens entry.stands)))
 
-  pub unit_one : (st' wk' : List ℕ) (r : Bool) → Decided ix st wk y st' wk' r → UnitOf ix st wk g st' wk' r
-  unit_one st' wk' true k = (fallen_dies (falls_one asks) (dies_in k.0), k.1)
+  pub unit_one : (st' : Tally) (wk' : Notes) (r : Bool) → Decided ix st wk y st' wk' r → UnitOf ix st wk g st' wk' r
+  unit_one st' wk' true k = fallen_dies (falls_one asks) (dies_in k)
   unit_one st' wk' false k = (
     rw k.0 (falls_one asks),
     k.1,
@@ -79,12 +82,12 @@ module _ {ix st wk : List ℕ} (sound : Sound ix st wk) (g : ℕ) (inside : g < 
   )
 
 -- one is true: all that is open becomes false
-module _ {ix st wk : List ℕ} (sound : Sound ix st wk) (g : ℕ) (inside : g < clause_count ix) (many : one_true < count_in st g) where
+module _ {ix : Index} {st : Tally} {wk : Notes} (sound : Sound ix st wk) (g : ℕ) (inside : g < clause_count ix) (many : one_true < count_in st g) where
   stands_true : Memᴰ TRUE (standing (state_in st) (clause_of ix g))
   stands_true = occurs_mem (standing (state_in st) (clause_of ix g)) TRUE (omega (arith, count_one_true sound.index sound.exact g inside (omega arith)))
 
-  pub unit_clears : (st' wk' : List ℕ) (r : Bool) → Cleared ix st wk g 0 st' wk' r → UnitOf ix st wk g st' wk' r
-  unit_clears st' wk' true k = (fallen_dies (clearing_falls (mem_formula ix g inside) stands_true k.0.1) (dies_in k.0.2), k.1)
+  pub unit_clears : (st' : Tally) (wk' : Notes) (r : Bool) → Cleared ix st wk g 0 st' wk' r → UnitOf ix st wk g st' wk' r
+  unit_clears st' wk' true k = fallen_dies (clearing_falls (mem_formula ix g inside) stands_true k.1) (dies_in k.2)
   unit_clears st' wk' false k = (
     clearing_falls (mem_formula ix g inside) stands_true k.path,
     k.moved,

@@ -1,7 +1,7 @@
 -- The open literals of a clause with one or two of them, and what rule 6 makes of two.
 use mathlib.Core.Path.{◌≡◌, refl, ap, sym, ◌∙◌}
 use mathlib.Core.Logic.{inl, ⊎_elim}
-use mathlib.Core.List.{List, [], ◌∷◌, Memᴰ}
+use mathlib.Core.List.{[], ◌∷◌, Memᴰ}
 use Prim.Native.Nat.{ℕ, suc, ◌+◌, ◌/◌, ◌<◌}
 use native.Mathlib.Omega.{arith}
 use borrow.Author.Tests.{lt-ltb}
@@ -30,9 +30,11 @@ use Rattle.engine.specs.Reading.{Legible, written, rest, Opens, FirstOpen, OpenC
 use Rattle.tie.specs.Tying.{Tying}
 use Rattle.moves.proofs.Dying.{fallen_dies}
 use Rattle.engine.proofs.Reading.{open_code}
+use Rattle.occurrences.specs.declared.Index.{Index}
+use Rattle.tally.specs.declared.Tally.{Tally}
 
 -- one, or two: the walk begins at the clause's start
-pub opens_first : {ix st : List ℕ} → Legible ix st → (g : ℕ) → g < clause_count ix → 0 < count_in st g → count_in st g < one_true → Opens ix st g (start_at ix g)
+pub opens_first : {ix : Index} {st : Tally} → Legible ix st → (g : ℕ) → g < clause_count ix → 0 < count_in st g → count_in st g < one_true → Opens ix st g (start_at ix g)
 opens_first l g inside o h = record {
   legible = l;
   inside = inside;
@@ -41,7 +43,7 @@ opens_first l g inside o h = record {
   some_open = omega (arith, count_opens l.index l.exact g inside h);
 }
 
-pub first_entry : {ix st : List ℕ} {g i x : ℕ} → Opens ix st g (start_at ix g) → FirstOpen ix st g (start_at ix g) i → x ≡ code_of (value (state_in st) (written ix i)) → OpenEntry ix st g x
+pub first_entry : {ix : Index} {st : Tally} {g i x : ℕ} → Opens ix st g (start_at ix g) → FirstOpen ix st g (start_at ix g) i → x ≡ code_of (value (state_in st) (written ix i)) → OpenEntry ix st g x
 first_entry {ix} {st} {g} {i} {x} o k e = record {
   code = open_code o.legible g o.inside i k.begins k.before x e k.opened;
   stands = rw (at_code x (value (state_in st) (written ix i)) e, k.splits) (Memᴰ.head refl);
@@ -62,7 +64,7 @@ module _ (l : Literal) (d : Clause) (o : 0 < var l) where
   trues_cons : occurs TRUE (l ∷ d) ≡ occurs TRUE d
   trues_cons = occurs_other TRUE l d (λ e. omega (arith, ap var e))
 
-module _ {ix st : List ℕ} {g i : ℕ} (o : Opens ix st g (start_at ix g)) (two : count_in st g ≡ 2) (first : FirstOpen ix st g (start_at ix g) i) where
+module _ {ix : Index} {st : Tally} {g i : ℕ} (o : Opens ix st g (start_at ix g)) (two : count_in st g ≡ 2) (first : FirstOpen ix st g (start_at ix g) i) where
   opens_two : open_count (standing (state_in st) (clause_of ix g)) ≡ 2
   opens_two = omega (arith, count_opens o.legible.index o.legible.exact g o.inside (omega arith))
 

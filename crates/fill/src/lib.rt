@@ -1,42 +1,23 @@
-// Runs of a lent list, from an index on: its elements become 0, or those of another list.
+// Runs of a lent list, from an index on: its elements become one value, or those of another list.
 #![tactic(auto)]
 
-ghost use Rattle.std.specs.Prelude.{◌≡◌, ◌++◌, ◌+◌, ◌≤◌, pos, length, replicate, take, drop};
+ghost use Rattle.std.specs.Prelude.{◌≡◌, ◌++◌, ◌+◌, ◌≤◌, length, replicate, take, drop};
 
-pub fn clear_bytes(bytes: &mut [u8], at: usize, n: usize)
-    requires { at + n ≤ length bytes.old }
-    ensures { bytes.new ≡ take at bytes.old ++ (replicate n 0 ++ drop (at + n) bytes.old) }
+pub fn clear<T: Copy>(list: &mut [T], at: usize, n: usize, zero: T)
+    requires { at + n ≤ length list.old }
+    ensures { list.new ≡ take at list.old ++ (replicate n zero ++ drop (at + n) list.old) }
 {
-    for i in 0..n {
-        bytes[at + i] = 0;
-    }
-}
-
-pub fn clear_numbers(numbers: &mut [i16], at: usize, n: usize)
-    requires { at + n ≤ length numbers.old }
-    ensures { numbers.new ≡ take at numbers.old ++ (replicate n (pos 0) ++ drop (at + n) numbers.old) }
-{
-    for i in 0..n {
-        numbers[at + i] = 0;
-    }
-}
-
-pub fn clear_reasons(reasons: &mut [u16], at: usize, n: usize)
-    requires { at + n ≤ length reasons.old }
-    ensures { reasons.new ≡ take at reasons.old ++ (replicate n 0 ++ drop (at + n) reasons.old) }
-{
-    for i in 0..n {
-        reasons[at + i] = 0;
+    // The library's `fill` asks that a clone of the value can't fail, which `Copy` doesn't say.
+    for element in &mut list[at..at + n] {
+        *element = zero;
     }
 }
 
 // The first n elements of `from`.
-pub fn copy_numbers(numbers: &mut [i16], at: usize, from: &[i16], n: usize)
-    requires n_in_bounds { at + n ≤ length numbers.old }
+pub fn copy<T: Copy>(list: &mut [T], at: usize, from: &[T], n: usize)
+    requires n_in_bounds { at + n ≤ length list.old }
     requires n_in_bounds_2 { n ≤ length from.now }
-    ensures { numbers.new ≡ take at numbers.old ++ (take n from.now ++ drop (at + n) numbers.old) }
+    ensures { list.new ≡ take at list.old ++ (take n from.now ++ drop (at + n) list.old) }
 {
-    for i in 0..n {
-        numbers[at + i] = from[i];
-    }
+    list[at..at + n].copy_from_slice(&from[..n]);
 }

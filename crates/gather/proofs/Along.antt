@@ -10,23 +10,25 @@ use Rattle.general.specs.Repeats.{times_cons}
 use Rattle.literal.specs.Literal.{max_variables, variables}
 use Rattle.theory.proofs.Counts.{Holds}
 use Rattle.occurrences.specs.Index.{clause_of}
-use Rattle.tally.specs.Tally.{tally_of, link_in}
+use Rattle.tally.specs.Tally.{link_in}
 use Rattle.tally.specs.Stretch.{Stretch, Reaches, Passed, far}
 use Rattle.tally.proofs.Stretches.{stretch_long, stretch_first, stretch_goes, far_stretch}
 use Rattle.tally.proofs.Blocks.{passed_begins, passed_goes, passed_ends}
 use Rattle.gather.specs.Gathering.{WideIn}
+use Rattle.occurrences.specs.declared.Index.{Index}
+use Rattle.tally.specs.declared.Tally.{Tally}
 
 -- of the variables of l, rest and then e are still to be visited, of which p is the first
-pub record Along (ix st : List ℕ) (Done : ℕ → Type 0) (l : List ℕ) (p e : ℕ) : Type 0 where
+pub record Along (ix : Index) (st : Tally) (Done : ℕ → Type 0) (l : List ℕ) (p e : ℕ) : Type 0 where
   pub rest : List ℕ
-  pub left : Stretch (tally_of st).links (tally_of st).values p e rest
+  pub left : Stretch st.links st.values p e rest
   pub among : (q : ℕ) → 0 < times q (e ∷ rest) → 0 < times q l
   pub done : (g : ℕ) → WideIn ix st g → Passed l (e ∷ rest) (clause_of ix g) → Done g
 
-unfoldable pub along_begins : {ix st : List ℕ} {Done : ℕ → Type 0} {l : List ℕ} {p e : ℕ} → Stretch (tally_of st).links (tally_of st).values p e l → Along ix st Done (e ∷ l) p e
+unfoldable pub along_begins : {ix : Index} {st : Tally} {Done : ℕ → Type 0} {l : List ℕ} {p e : ℕ} → Stretch st.links st.values p e l → Along ix st Done (e ∷ l) p e
 along_begins {ix} {l = l} {e = e} s = record { rest = l; left = s; among = λ q h. h; done = λ g w k. absurd (passed_begins (e ∷ l) (clause_of ix g) k) }
 
-module _ {ix st : List ℕ} {Done : ℕ → Type 0} {l : List ℕ} {p e : ℕ} (o : Along ix st Done l p e) where
+module _ {ix : Index} {st : Tally} {Done : ℕ → Type 0} {l : List ℕ} {p e : ℕ} (o : Along ix st Done l p e) where
   pub along_known : p ≤ max_variables
   along_known = o.left.inside p (stretch_first o.left)
 
@@ -45,7 +47,7 @@ module _ {ix st : List ℕ} {Done : ℕ → Type 0} {l : List ℕ} {p e : ℕ} (
           done = λ g i k. ⊎_elim (λ j. keeps g (o.done g i j)) (fresh g i) (passed_goes o.left l (clause_of ix g) on k);
         }
 
-    pub along_falls : far (tally_of st).links e variables n < far (tally_of st).links e variables p
+    pub along_falls : far st.links e variables n < far st.links e variables p
     along_falls =
         let w = stretch_goes o.left on in
         rw next (omega (

@@ -9,19 +9,21 @@ use Rattle.tally.specs.Tally.{value_in}
 use Rattle.moves.specs.Sound.{Sound}
 use Rattle.moves.specs.Moving.{Went}
 use Rattle.gather.specs.Gathering.{AtRoot, Beside}
+use Rattle.occurrences.specs.declared.Index.{Index}
+use Rattle.tally.specs.declared.Tally.{Tally}
+use Rattle.notes.specs.declared.Notes.{Notes}
 
-module _ {ix st wk : List ℕ} (s : Sound ix st wk) where
+module _ {ix : Index} {st : Tally} {wk : Notes} (s : Sound ix st wk) where
   pub sound_root : {r : ℕ} → 0 < r → r ≤ max_variables → value_in st r ≡ 2 * r → AtRoot ix st r
   sound_root o i e = record { index = s.index; exact = s.exact; linked = s.linked; classes = s.classes; opened = o; inside = i; root = e }
 
-  module _ {wk' : List ℕ} (b : Beside wk wk') where
+  module _ {wk' : Notes} (b : Beside wk wk') where
     pub beside_sound : Sound ix st wk'
     beside_sound = record {
       index = s.index;
       exact = s.exact;
       linked = s.linked;
       classes = s.classes;
-      whole = b.whole;
       todo_room = rw b.todo_end s.todo_room;
       blocks_room = rw b.blocks_end s.blocks_room;
       todo_inside = rw (b.todo_end, b.todo) s.todo_inside;

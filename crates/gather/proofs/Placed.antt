@@ -15,6 +15,7 @@ use Rattle.theory.proofs.Clauses.{mem_occurs}
 use Rattle.theory.proofs.Counts.{Holds}
 use Rattle.occurrences.specs.Index.{Indexed, clause_count, clause_of, first_at, occurrence_at, occurrences, width}
 use Rattle.gather.proofs.Written.{known, mem_written}
+use Rattle.occurrences.specs.declared.Index.{Index}
 
 -- an element that stands in a list made from a function of the index
 times_from : (f : ℕ → ℕ) (x k n : ℕ) → 0 < times x (from f k n) → (j : ℕ) × (k ≤ j) × (j < k + n) × (f j ≡ x)
@@ -25,7 +26,7 @@ times_from f x k (suc n) h = elim (dec_eq (f k) x) [
   | no e ↦ let r = times_from f x (suc k) n (omega (arith, ap bit (ne_eqb (f k) x e))) in (r.0, omega (arith, r.1), omega (arith, r.2), r.3)
 ]
 
-module _ {ix : List ℕ} (index : Indexed ix) where
+module _ {ix : Index} (index : Indexed ix) where
   placed : (p o : ℕ) → p ≤ max_variables → 0 < times o (occurrences ix p) → (j : ℕ) × (first_at ix p ≤ j) × (j < first_at ix (p + 1)) × (occurrence_at ix j ≡ o)
   placed p o h t = let j = times_from (occurrence_at ix) o (first_at ix p) (width ix p) t in (j.0, j.1, omega (arith, j.2, index.rising p h), j.3)
 

@@ -20,16 +20,18 @@ use Rattle.theory.proofs.Counts.{mentions, Wide, holds_mentions}
 use Rattle.state.specs.State.{state_of}
 use Rattle.state.proofs.Values.{state_of_inside}
 use Rattle.occurrences.specs.Index.{Indexed, clause_count, clause_of, code_at, start_at}
-use Rattle.tally.specs.Tally.{tally_of, state_in, count_in}
+use Rattle.tally.specs.Tally.{state_in, count_in}
 use Rattle.tally.specs.Counts.{Exact, one_true}
 use Rattle.tally.proofs.Standing.{count_wide, wide_three, wide_low}
 use Rattle.gather.specs.Gathering.{is_wide, WideIn, Written}
+use Rattle.occurrences.specs.declared.Index.{Index}
+use Rattle.tally.specs.declared.Tally.{Tally}
 
 -- what variable q stands for
 pub stands_for : (v : List ℕ) (q : ℕ) → q ≤ max_variables → var (state_of v q) ≡ get_or v q 0 / 2
 stands_for v q h = ap var (state_of_inside v q h) ∙ var_at (get_or v q 0)
 
-module _ {ix : List ℕ} (index : Indexed ix) (g : ℕ) (inside : g < clause_count ix) where
+module _ {ix : Index} (index : Indexed ix) (g : ℕ) (inside : g < clause_count ix) where
   -- a literal of the clause is an occurrence of its variable
   pub known : (l : Literal) → Memᴰ l (clause_of ix g) → var l ≤ max_variables
   known l m =
@@ -55,7 +57,7 @@ module _ {ix : List ℕ} (index : Indexed ix) (g : ℕ) (inside : g < clause_cou
         let z : var (value (state_of v) l) ≡ r = value_variable (state_of v) l ∙ ap (λ (i : ℕ). var (state_of v i)) lq ∙ stands_for v q b ∙ e in
         holds_mentions r (standing (state_of v) (clause_of ix g)) (value (state_of v) l, mem_standing (state_of v) (clause_of ix g) l m (λ q. omega (arith, ap var q)), z)
 
-  module _ (st : List ℕ) (exact : Exact ix (tally_of st).values (tally_of st).counts) where
+  module _ (st : Tally) (exact : Exact ix st.values st.counts) where
     pub wide_in : Wide (standing (state_in st) (clause_of ix g)) → WideIn ix st g
     wide_in w = (
       inside,

@@ -2,10 +2,8 @@
 #![tactic(auto)]
 
 ghost use Rattle.std.specs.Prelude.{◌≡◌, ◌%◌, ◌≤◌};
-ghost use Rattle.general.specs.Booleans.{bit};
 ghost use Rattle.literal.specs.Literal.{max_variables};
 ghost use Rattle.occurrences.specs.Index.{Indexed};
-ghost use Rattle.notes.specs.Notes.{Whole};
 ghost use Rattle.gather.specs.Gathering.{is_wide, is_signed, AtRoot, Gathering, Collecting, Collected, Gatherable, GatheredAlong, Stands, StandsLive};
 
 use notes::Notes;
@@ -20,27 +18,22 @@ pub enum Sign {
     Either,
 }
 
-// 1 where an occurrence has such a sign.
-fn signed(occurrence: u16, sign: Sign) -> usize
-    ensures { result ≡ bit (is_signed sign (occurrence % 2)) }
+// Whether an occurrence has such a sign.
+fn signed(occurrence: u16, sign: Sign) -> bool
+    ensures { result ≡ is_signed sign (occurrence % 2) }
 {
     match sign {
-        Sign::Either => 1,
-        Sign::Positive => { if occurrence % 2 == 0 { 1 } else { 0 } }
-        Sign::Negative => { if occurrence % 2 == 1 { 1 } else { 0 } }
+        Sign::Either => true,
+        Sign::Positive => occurrence % 2 == 0,
+        Sign::Negative => occurrence % 2 == 1,
     }
 }
 
-// 1 where a clause is wide, by its count.
-pub fn wide(count: u16) -> usize
-    ensures { result ≡ bit (is_wide count) }
+// Whether a clause is wide, by its count.
+pub fn wide(count: u16) -> bool
+    ensures { result ≡ is_wide count }
 {
-    if 2 < count {
-        if count < tally::ONE_TRUE {
-            return 1;
-        }
-    }
-    0
+    2 < count && count < tally::ONE_TRUE
 }
 
 // Gathers the wide clauses in which variable p stands, with such a sign, from place `start` on, and says where they end. A clause that doesn't count is
@@ -57,13 +50,10 @@ pub fn gather_variable(
     ensures { Collected index.now state.now work.old p start sign work.new result }
 {
     let mut end = start;
-    let first = occurrences::first_of(index, p);
-    let last = occurrences::first_of(index, p + 1);
-    for j in first..last {
-        let occurrence = occurrences::occurrence_at(index, j);
+    for &occurrence in index.occurrences_of(p) {
         let g = occurrence / 2;
-        notes::put_gathered(work, end, g);
-        end += wide(tally::count_of(state, g as usize)) * signed(occurrence, sign);
+        work.gathered[end] = g;
+        end += (wide(state.count_of(g as usize)) & signed(occurrence, sign)) as usize;
     }
     end
 }
@@ -81,23 +71,22 @@ pub fn gather_stretch(
     ensures { GatheredAlong index.now state.now work.old first last start work.new result }
 {
     let mut end = start;
-    let mut p = first as usize;
+    let mut p = first;
     loop {
-        end = gather_variable(index, state, work, p, end, Sign::Either);
-        if p == last as usize {
+        end = gather_variable(index, state, work, p as usize, end, Sign::Either);
+        if p == last {
             return end;
         }
-        p = tally::link_of(state, p) as usize;
+        p = state.link_of(p as usize);
     }
 }
 
 // Gathers the wide clauses that hold the class of root r, the variables that were tied last first, and says how many there are.
 pub fn gather(index: &Index, state: &Tally, work: &mut Notes, r: u16) -> usize
-    requires at_root { AtRoot index.now state.now r }
-    requires whole { Whole work.old }
+    requires { AtRoot index.now state.now r }
     ensures { Gathering index.now state.now work.old r work.new result }
 {
-    gather_stretch(index, state, work, tally::link_of(state, r as usize), r, 0)
+    gather_stretch(index, state, work, state.link_of(r as usize), r, 0)
 }
 
 // Whether variable p stands in a wide clause.
@@ -106,11 +95,8 @@ fn stands_wide(index: &Index, state: &Tally, p: usize) -> bool
     requires p_le_max_variables { p ≤ max_variables }
     ensures { Stands index.now state.now p result }
 {
-    let first = occurrences::first_of(index, p);
-    let last = occurrences::first_of(index, p + 1);
-    for j in first..last {
-        let g = occurrences::occurrence_at(index, j) / 2;
-        if wide(tally::count_of(state, g as usize)) == 1 {
+    for &occurrence in index.occurrences_of(p) {
+        if wide(state.count_of((occurrence / 2) as usize)) {
             return true;
         }
     }
@@ -122,14 +108,14 @@ pub fn stands_live(index: &Index, state: &Tally, r: u16) -> bool
     requires { AtRoot index.now state.now r }
     ensures { StandsLive index.now state.now r result }
 {
-    let mut p = tally::link_of(state, r as usize) as usize;
+    let mut p = state.link_of(r as usize);
     loop {
-        if stands_wide(index, state, p) {
+        if stands_wide(index, state, p as usize) {
             return true;
         }
-        if p == r as usize {
+        if p == r {
             return false;
         }
-        p = tally::link_of(state, p) as usize;
+        p = state.link_of(p as usize);
     }
 }

@@ -1,11 +1,17 @@
 -- Booleans as tests, and what a choice between two values says.
 use Rattle.std.specs.Prelude.{◌≡◌, refl, ◌⊎◌, Bool, true, false, not, ◌&&◌, ◌||◌, cond, ℕ, ◌+◌}
 use Rattle.std.proofs.Common.{inl, inr, arith}
+use mir.Val.{bool_byte}
 
 -- true counts one
 abbrev pub bit : Bool → ℕ
 bit true = 1
 bit false = 0
+
+-- and so it does as a number in code
+pub byte_bit : (b : Bool) → bool_byte b ≡ bit b
+byte_bit true = refl
+byte_bit false = refl
 
 pub bool_cases : (b : Bool) → (b ≡ true) ⊎ (b ≡ false)
 bool_cases true = inl refl

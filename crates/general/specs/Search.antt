@@ -4,7 +4,7 @@ use Rattle.std.proofs.Math.Path.{refl, ap, sym}
 use Rattle.std.proofs.Common.{◌∙◌, inl, inr}
 use Rattle.std.proofs.Math.Bool.{true, false, or-false, or_assoc}
 use Rattle.std.proofs.Math.Logic.{⊎_elim}
-use Rattle.std.proofs.Math.Option.{Option, none, some}
+use Rattle.std.specs.Prelude.{Option, None, Some}
 use mathlib.Core.List.Memᴰ
 use mathlib.Core.List.{List, [], ◌∷◌, ◌++◌, Memᴰ}
 use Prim.Native.Nat.{ℕ, zero, suc, ◌+◌, ◌≤◌, ◌<◌}
@@ -16,15 +16,15 @@ use Rattle.general.specs.Lists.{from}
 
 module _ {A : Type 0} (test : A → Bool) where
   unfoldable pub find : List A → Option A
-  find [] = none
-  find (x ∷ l) = cond (test x) (some x) (find l)
+  find [] = None
+  find (x ∷ l) = cond (test x) (Some x) (find l)
 
   -- by the element in front
-  pub find_end : {l : List A} → l ≡ [] → find l ≡ none
+  pub find_end : {l : List A} → l ≡ [] → find l ≡ None
   unfolding find
   find_end e = rw e
 
-  pub find_here : {l m : List A} {x : A} → l ≡ x ∷ m → test x ≡ true → find l ≡ some x
+  pub find_here : {l m : List A} {x : A} → l ≡ x ∷ m → test x ≡ true → find l ≡ Some x
   unfolding find
   find_here e h = rw (e, h)
 
@@ -34,8 +34,8 @@ module _ {A : Type 0} (test : A → Bool) where
 
   -- the place of the first element that passes; the list's own first element has place i
   unfoldable pub first_place : ℕ → List A → Option ℕ
-  first_place i [] = none
-  first_place i (x ∷ l) = cond (test x) (some i) (first_place (suc i) l)
+  first_place i [] = None
+  first_place i (x ∷ l) = cond (test x) (Some i) (first_place (suc i) l)
 
   pub record First (l : List A) (i : ℕ) : Type 0 where
     pub inside : i < length l
@@ -51,26 +51,26 @@ module _ {A : Type 0} (test : A → Bool) where
 
   -- what the place says: none passes, or the element there is the first
   abbrev Placed : ℕ → List A → Option ℕ → Type 0
-  Placed i l none = (y : A) → Memᴰ y l → test y ≡ false
-  Placed i l (some p) = (j : ℕ) × (p ≡ i + j) × First l j
+  Placed i l None = (y : A) → Memᴰ y l → test y ≡ false
+  Placed i l (Some p) = (j : ℕ) × (p ≡ i + j) × First l j
 
   placed : (i : ℕ) (l : List A) → Placed i l (first_place i l)
   unfolding first_place
   placed i [] = λ y m. absurd (Memᴰ.not-nil m)
   placed i (x ∷ l) = go (test x) refl (first_place (suc i) l) (placed (suc i) l)
     where
-      go : (b : Bool) → test x ≡ b → (o : Option ℕ) → Placed (suc i) l o → Placed i (x ∷ l) (cond b (some i) o)
+      go : (b : Bool) → test x ≡ b → (o : Option ℕ) → Placed (suc i) l o → Placed i (x ∷ l) (cond b (Some i) o)
       go true e o w = (0, omega arith, record { inside = omega arith; here = λ d. e; earlier = λ j k. absurd (omega arith) })
-      go false e none w = λ y m. ⊎_elim (λ q. ap test q ∙ e) (w y) (Memᴰ.cases_cons m)
-      go false e (some p) w = (suc w.0, omega (arith, w.1), first_later x l w.0 e w.2)
+      go false e None w = λ y m. ⊎_elim (λ q. ap test q ∙ e) (w y) (Memᴰ.cases_cons m)
+      go false e (Some p) w = (suc w.0, omega (arith, w.1), first_later x l w.0 e w.2)
 
-  pub place_none : (i : ℕ) (l : List A) → first_place i l ≡ none → (y : A) → Memᴰ y l → test y ≡ false
+  pub place_none : (i : ℕ) (l : List A) → first_place i l ≡ None → (y : A) → Memᴰ y l → test y ≡ false
   place_none i l e = rw e at (placed i l)
 
-  pub place_some : (i : ℕ) (l : List A) (p : ℕ) → first_place i l ≡ some p → (j : ℕ) × (p ≡ i + j) × First l j
+  pub place_some : (i : ℕ) (l : List A) (p : ℕ) → first_place i l ≡ Some p → (j : ℕ) × (p ≡ i + j) × First l j
   place_some i l p e = rw e at (placed i l)
 
-  pub none_placed : (i : ℕ) (l : List A) → ((y : A) → Memᴰ y l → test y ≡ false) → first_place i l ≡ none
+  pub none_placed : (i : ℕ) (l : List A) → ((y : A) → Memᴰ y l → test y ≡ false) → first_place i l ≡ None
   unfolding first_place
   none_placed i [] h = refl
   none_placed i (x ∷ l) h = rw (h x (Memᴰ.head refl)) (none_placed (suc i) l (λ y m. h y (Memᴰ.tail m)))
@@ -115,30 +115,30 @@ module _ {A : Type 0} (test : A → Bool) where
 
   -- what the answer says: none passes, or an element that passes
   abbrev pub Finds : List A → Option A → Type 0
-  Finds l none = (y : A) → Memᴰ y l → test y ≡ false
-  Finds l (some y) = Memᴰ y l × (test y ≡ true)
+  Finds l None = (y : A) → Memᴰ y l → test y ≡ false
+  Finds l (Some y) = Memᴰ y l × (test y ≡ true)
 
   pub find_finds : (l : List A) → Finds l (find l)
   unfolding find
   find_finds [] = λ y m. absurd (Memᴰ.not-nil m)
   find_finds (x ∷ l) = go (test x) refl (find l) (find_finds l)
     where
-      go : (b : Bool) → test x ≡ b → (o : Option A) → Finds l o → Finds (x ∷ l) (cond b (some x) o)
+      go : (b : Bool) → test x ≡ b → (o : Option A) → Finds l o → Finds (x ∷ l) (cond b (Some x) o)
       go true e o w = (Memᴰ.head refl, e)
-      go false e none w = λ y m. ⊎_elim (λ q. ap test q ∙ e) (w y) (Memᴰ.cases_cons m)
-      go false e (some y) w = (Memᴰ.tail w.0, w.1)
+      go false e None w = λ y m. ⊎_elim (λ q. ap test q ∙ e) (w y) (Memᴰ.cases_cons m)
+      go false e (Some y) w = (Memᴰ.tail w.0, w.1)
 
-  pub find_none : (l : List A) → find l ≡ none → (y : A) → Memᴰ y l → test y ≡ false
+  pub find_none : (l : List A) → find l ≡ None → (y : A) → Memᴰ y l → test y ≡ false
   find_none l e = rw e at (find_finds l)
 
-  pub find_nothing : (l : List A) → ((y : A) → Memᴰ y l → test y ≡ false) → find l ≡ none
+  pub find_nothing : (l : List A) → ((y : A) → Memᴰ y l → test y ≡ false) → find l ≡ None
   find_nothing l h = go (find l) (find_finds l)
     where
-      go : (o : Option A) → Finds l o → o ≡ none
-      go none w = refl
-      go (some y) w = absurd (true_not_false w.1 (h y w.0))
+      go : (o : Option A) → Finds l o → o ≡ None
+      go None w = refl
+      go (Some y) w = absurd (true_not_false w.1 (h y w.0))
 
-  pub find_some : (l : List A) (y : A) → find l ≡ some y → Memᴰ y l × (test y ≡ true)
+  pub find_some : (l : List A) (y : A) → find l ≡ Some y → Memᴰ y l × (test y ≡ true)
   find_some l y e = rw e at (find_finds l)
 
   pub any_true : (l : List A) → any l ≡ true → (x : A) × Memᴰ x l × (test x ≡ true)
@@ -163,8 +163,8 @@ module _ {A : Type 0} (test : A → Bool) where
 -- the first of the numbers k, k + 1, .. that passes, of n of them
 module _ (test : ℕ → Bool) where
   abbrev pub FindsFrom : ℕ → ℕ → Option ℕ → Type 0
-  FindsFrom k n none = (i : ℕ) → k ≤ i → i < k + n → test i ≡ false
-  FindsFrom k n (some p) = (k ≤ p) × (p < k + n) × (test p ≡ true) × ((i : ℕ) → k ≤ i → i < p → test i ≡ false)
+  FindsFrom k n None = (i : ℕ) → k ≤ i → i < k + n → test i ≡ false
+  FindsFrom k n (Some p) = (k ≤ p) × (p < k + n) × (test p ≡ true) × ((i : ℕ) → k ≤ i → i < p → test i ≡ false)
 
   pub find_from : (k n : ℕ) → FindsFrom k n (find test (from (λ i. i) k n))
   unfolding find from
@@ -174,7 +174,7 @@ module _ (test : ℕ → Bool) where
       later : test k ≡ false → (i : ℕ) → k ≤ i → (suc k ≤ i → test i ≡ false) → test i ≡ false
       later e i l h = elim (ℕ_discrete i k) [ yes q ↦ rw q e | no q ↦ h (omega arith) ]
 
-      go : (b : Bool) → test k ≡ b → (o : Option ℕ) → FindsFrom (suc k) n o → FindsFrom k (suc n) (cond b (some k) o)
+      go : (b : Bool) → test k ≡ b → (o : Option ℕ) → FindsFrom (suc k) n o → FindsFrom k (suc n) (cond b (Some k) o)
       go true e o w = (omega arith, omega arith, e, λ i l h. absurd (omega arith))
-      go false e none w = λ i l h. later e i l (λ j. w i j (omega arith))
-      go false e (some p) w = (omega (arith, w.0), omega (arith, w.1), w.2, λ i l h. later e i l (λ j. w.3 i j h))
+      go false e None w = λ i l h. later e i l (λ j. w i j (omega arith))
+      go false e (Some p) w = (omega (arith, w.0), omega (arith, w.1), w.2, λ i l h. later e i l (λ j. w.3 i j h))

@@ -1,33 +1,33 @@
 -- The heads of a table, made one group after the other, are the heads of its clauses.
 use mathlib.Core.Path.{◌≡◌, refl, ap, ◌∙◌}
 use mathlib.Core.Logic.{◌≢◌}
-use mathlib.Core.List.{List, [], ◌∷◌}
+use mathlib.Core.List.{List, [], ◌∷◌, ◌++◌, append_assoc}
 use Prim.Native.Nat.{ℕ, zero, suc, ◌+◌, ◌-◌, ◌<◌, ◌≤◌}
 use native.Mathlib.Nat.{zero-add}
 use native.Mathlib.Numerals.{add-one}
 use native.Mathlib.Omega.{arith}
 use lib.Dec.{eqb-suc-zero}
 use lib.IntN.{ℤ, negsuc, nat_abs, pos as posℤ}
-use lib.ListN.{length, get_or, drop, drop_of_length-le}
-use lib.Seq.{drop-cons, sets, sets-eq}
+use lib.ListN.{length, get_or, set, take, drop, drop_of_length-le}
+use lib.Seq.{drop-cons}
+use Rattle.std.proofs.lemmas.List.{append-nil, take_all, take_more_set}
 use borrow.Author.Tests.{eq-eqb, ne_eqb}
 use Rattle.literal.specs.declared.Literal.{Literal}
 use Rattle.literal.specs.declared.Literal.TheVariants.{Pos, Neg}
 use Rattle.receipt.specs.declared.Fault.TheVariants.{HeadsShort}
-use Rattle.receipt.specs.declared.Checked.{Checked}
-use Rattle.receipt.specs.declared.Checked.TheVariants.{Passed, Refused}
-use Rattle.receipt.specs.declared.Indexing.TheVariants as indexing
+use Rattle.std.specs.Prelude.{Result, Ok, Err}
+use Rattle.receipt.specs.declared.Refusal.{Refusal}
+use Rattle.receipt.specs.Receipt.{Checked, pass}
 use Rattle.receipt.specs.declared.Head.{Head}
 use Rattle.theory.specs.Formula.{Clause, Formula, clauses, push}
 use Rattle.theory.specs.Table.{zeros, check}
 use Rattle.theory.specs.Refusing.{at_most, first_refusal, unless}
-use Rattle.theory.specs.Calls.{IndexCall, index_refused, indexed_call, index_call}
+use Rattle.theory.specs.Calls.{over, index_call}
 use Rattle.theory.specs.Heads.{head, heads_from, heads_of}
-use Rattle.theory.proofs.Heads.{clauses_zeros, heads_zeros, rest_at}
+use Rattle.theory.proofs.Heads.{clauses_zeros, rest_at}
 use Rattle.theory.proofs.Refusing.{most_passes, first_passed, last_passes}
 use Rattle.index.specs.declared.Next.{Next}
-use Rattle.index.specs.declared.Due.{Due}
-use Rattle.index.specs.Index.{next_from, next_head, heads_at, due_refused, due_of, called}
+use Rattle.index.specs.Index.{next_from, next_head, heads_at, due_of, called}
 
 abbrev next : ℕ → ℕ → ℕ → Next
 next s k i = record { head = head s k; next = i }
@@ -83,33 +83,35 @@ heads_are t (c ∷ f) s e =
 pub heads_made : (t : List ℤ) → heads_at (zeros t) t 0 ≡ heads_of t
 heads_made t = rw (← clauses_zeros t) (heads_are t (clauses t) 0 refl)
 
--- a call: so many heads as are due, stored from the first on
+-- the loop over the heads that are due: the first k stand, and those from `at` on are still to be stored
+module _ (t : List ℤ) (due : ℕ) (hs : List Head) (room : length hs ≡ due) (at k : ℕ) where
+  pub stored_turned : (x : Next) → x ≡ next_head t at → k < length hs →
+      take (k + 1) (set hs k x.head) ++ heads_at (due - (k + 1)) t x.next ≡ take k hs ++ heads_at (due - k) t at
+  unfolding heads_at
+  stored_turned x e h =
+      let z : due - k ≡ suc (due - (k + 1)) = omega (arith, room) in
+      rw (z, take_more_set hs k x.head h, append_assoc, e)
+
+  pub stored_ended : length hs ≤ k → take k hs ++ heads_at (due - k) t at ≡ hs
+  unfolding heads_at
+  stored_ended h = let z : due - k ≡ 0 = omega (arith, room) in rw (z, take_all k hs h) (append-nil hs)
+
+-- a call: so many heads as are due, for which there is room, stored from the first on; or its refusal
 module _ (n : ℕ) (t : List ℤ) (hs : List Head) where
-  abbrev Stored : Due → IndexCall → Type 0
-  Stored d c = called d.answer (sets hs 0 (heads_at d.heads t 0)) ≡ c
+  abbrev pub Stored : Result ℕ Refusal → Type 0
+  Stored (Ok due) = (due ≤ length hs) × (called pass (over due (heads_at due t 0) hs) ≡ index_call n t hs)
+  Stored (Err r) = called (Err r) hs ≡ index_call n t hs
 
   abbrev checks : Checked
   checks = first_refusal (check n t ∷ at_most (zeros t) (length hs) HeadsShort ∷ [])
 
-  has_room : checks ≡ Passed → zeros t ≤ length hs
+  has_room : checks ≡ pass → zeros t ≤ length hs
   has_room e = (most_passes (zeros t) (length hs) HeadsShort).0 ((last_passes (λ k. k, λ k. k)).0 ((first_passed (check n t) _).0 e).1)
 
-  pub index_stored : Stored (due_of n t (length hs)) (index_call n t hs)
-  unfolding due_of index_call heads_at
+  pub index_stored : Stored (due_of n t (length hs))
+  unfolding due_of index_call
   index_stored = go checks refl
     where
-      go : (k : Checked) → checks ≡ k → Stored (unless k due_refused (record { answer = indexing.Indexed; heads = zeros t })) (unless k (λ r. index_refused r hs) (indexed_call t hs))
-      go (Refused r) e = refl
-      go Passed e =
-          let l : length (heads_of t) ≡ zeros t = heads_zeros t in
-          let r : zeros t ≤ length hs = has_room e in
-          rw (heads_made t) (ap (called indexing.Indexed) (sets-eq (heads_of t) hs 0 (omega arith) ∙ rw (l, zero-add)))
-
-  -- there is room for them
-  pub due_room : (due_of n t (length hs)).heads ≤ length hs
-  unfolding due_of
-  due_room = go checks refl
-    where
-      go : (k : Checked) → checks ≡ k → (unless k due_refused (record { answer = indexing.Indexed; heads = zeros t })).heads ≤ length hs
-      go (Refused r) e = omega arith
-      go Passed e = has_room e
+      go : (k : Checked) → checks ≡ k → Stored (unless k Err (Ok (zeros t)))
+      go (Err r) e = rw e
+      go (Ok u) e = (has_room e, rw (heads_made t, e))

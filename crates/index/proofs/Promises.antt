@@ -9,14 +9,11 @@ use borrow.Author.Tests.{lt-ltb}
 use lib.IntN.{ℤ}
 use lib.ListN.{length, get_or, drop, get_or-append}
 use lib.Seq.{drop_at}
-use Rattle.receipt.specs.Receipt.{refusal, receipt}
+use Rattle.receipt.specs.Receipt.{refusal, receipt, pass, Checked}
 use Rattle.receipt.specs.Answers.{indexing_receipt}
-use Rattle.receipt.specs.declared.Checked.{Checked}
-use Rattle.receipt.specs.declared.Checked.TheVariants.{Passed, Refused}
+use Rattle.std.specs.Prelude.{Err}
 use Rattle.receipt.specs.declared.Fault.TheVariants.{HeadsShort}
 use Rattle.receipt.specs.declared.Head.{Head}
-use Rattle.receipt.specs.declared.Indexing.{Indexing}
-use Rattle.receipt.specs.declared.Indexing.TheVariants as indexing
 use Rattle.receipt.specs.declared.Refusal.{Refusal}
 use Rattle.theory.specs.Calls.{over, IndexCall, index_refused, indexed_call, index_call}
 use Rattle.theory.specs.Formula.{clauses}
@@ -30,42 +27,42 @@ use Rattle.theory.proofs.Tables.{accepted_exactly, accepted_closed}
 use Rattle.theory.proofs.Unknown.{none_named}
 use Rattle.index.specs.Index.{called}
 
-abbrev pub number_of : Indexing → ℕ
+abbrev pub number_of : Checked → ℕ
 number_of r = (indexing_receipt r).number
 
 -- a call of Index: its answer r, and the heads before and after it
-pub record Call (n : ℕ) (t : List ℤ) (hs : List Head) (r : Indexing) (hs' : List Head) : Type 0 where
+pub record Call (n : ℕ) (t : List ℤ) (hs : List Head) (r : Checked) (hs' : List Head) : Type 0 where
   pub is : called r hs' ≡ index_call n t hs
 
 -- "within the limits of document 01, with room lent for the results": 8 is "under the number of groups"
 abbrev pub Acceptable : ℕ → List ℤ → List Head → Type 0
 Acceptable n t hs = WithinLimits n t × (zeros t ≤ length hs)
 
-module _ {n : ℕ} {t : List ℤ} {hs : List Head} {r : Indexing} {hs' : List Head} (c : Call n t hs r hs') where
+module _ {n : ℕ} {t : List ℤ} {hs : List Head} {r : Checked} {hs' : List Head} (c : Call n t hs r hs') where
   -- a call by its checks: "Tables: 1, 2, 3, 4, 5, then .. 8 (index)"
   abbrev checks : List Checked
   checks = check n t ∷ at_most (zeros t) (length hs) HeadsShort ∷ []
 
-  by_checks : Refusing indexing.Refused (λ (s : IndexCall). s.answer) (λ w. index_refused w hs) (first_refusal checks) (indexed_call t hs) (called r hs')
+  by_checks : Refusing (λ (s : IndexCall). s.answer) (λ w. index_refused w hs) (first_refusal checks) (indexed_call t hs) (called r hs')
   unfolding index_call
   by_checks = record { is = c.is; turns = λ w. refl; accepts = λ w e. let z : ◌≡◌ {A = ℕ} 0 1 = cc in omega arith }
 
-  checked : (first_refusal checks ≡ Passed) ↔ Acceptable n t hs
+  checked : (first_refusal checks ≡ pass) ↔ Acceptable n t hs
   checked = both_pass (accepted_exactly n t) (last_passes (most_passes (zeros t) (length hs) HeadsShort))
 
   -- demand 1: "Every table .. within the limits of document 01, with room lent for the results, is accepted"; "Every other input is refused"
-  pub index_accepts : NotRefused indexing.Refused r ↔ Acceptable n t hs
+  pub index_accepts : NotRefused r ↔ Acceptable n t hs
   index_accepts = accepted_when by_checks checked
 
-  indexed : NotRefused indexing.Refused r → called r hs' ≡ indexed_call t hs
+  indexed : NotRefused r → called r hs' ≡ indexed_call t hs
   indexed h = accepted_is by_checks (checked.1 (index_accepts.0 h))
 
   -- 17 indexed
-  pub index_answers : NotRefused indexing.Refused r → indexing_receipt r ≡ receipt 17 0 0
+  pub index_answers : NotRefused r → indexing_receipt r ≡ receipt 17 0 0
   index_answers h = ap (λ (s : IndexCall). indexing_receipt s.answer) (indexed h)
 
   -- demand 1: "a refused call changes no lent element"
-  pub index_refused_unchanged : (w : Refusal) → r ≡ indexing.Refused w → hs' ≡ hs
+  pub index_refused_unchanged : (w : Refusal) → r ≡ Err w → hs' ≡ hs
   index_refused_unchanged w e = ap (λ (s : IndexCall). s.heads) (unchanged by_checks w e).2
 
   -- A2: 5 is for the first unknown placement, with its group; "for all other numbers it is 0"
@@ -75,15 +72,15 @@ module _ {n : ℕ} {t : List ℤ} {hs : List Head} {r : Indexing} {hs' : List He
       (none_named 17 0 0 (λ e. omega arith))
 
   -- refused exactly with the first check that refuses
-  pub index_refused_lem : (w : Refusal) → (r ≡ indexing.Refused w) ↔ RefusedFirst checks w
+  pub index_refused_lem : (w : Refusal) → (r ≡ Err w) ↔ RefusedFirst checks w
   index_refused_lem w = (λ e. let o = unchanged by_checks w e in let q : o.0 ≡ w = cc (ap (λ (x : IndexCall). x.answer) o.2) in (first_refuses checks w).0 (rw q at o.1), λ f. refused_with by_checks w ((first_refuses checks w).1 f))
 
   -- 1 to 5 are the table's
-  pub index_table_refused : (w : Refusal) → check n t ≡ Refused w → r ≡ indexing.Refused w
+  pub index_table_refused : (w : Refusal) → check n t ≡ Err w → r ≡ Err w
   index_table_refused w e = refused_with by_checks w (rw e)
 
   -- 8: "heads short", under the number of groups, of a table within the limits
-  pub index_heads_short : WithinLimits n t → length hs < zeros t → r ≡ indexing.Refused (refusal HeadsShort 0)
+  pub index_heads_short : WithinLimits n t → length hs < zeros t → r ≡ Err (refusal HeadsShort 0)
   index_heads_short w h = let a : Accepted n t = (accepted_exactly n t).1 w in refused_with by_checks (refusal HeadsShort 0) (rw (a, lt-ltb (length hs) (zeros t) h))
 
   -- "Elements not named are never changed.": the heads past the number of groups

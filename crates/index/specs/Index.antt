@@ -1,18 +1,15 @@
 -- How code makes the heads of a table: one group after the other. And a call of Index: its answer, and the list after it.
-use Rattle.std.specs.Prelude.{cond, List, [], ◌∷◌, ◌++◌, ℕ, zero, suc, ◌+◌, min, ℤ, take, drop}
+use Rattle.std.specs.Prelude.{cond, List, [], ◌∷◌, ◌++◌, ℕ, zero, suc, ◌+◌, min, ℤ, take, drop, Result, Ok, Err}
 use Rattle.literal.specs.Literal.{max_clauses}
 use Rattle.receipt.specs.declared.Fault.TheVariants.{HeadsShort}
 use Rattle.receipt.specs.declared.Refusal.{Refusal}
-use Rattle.receipt.specs.declared.Checked.{Checked}
-use Rattle.receipt.specs.declared.Indexing.{Indexing}
-use Rattle.receipt.specs.declared.Indexing.TheVariants as indexing
+use Rattle.receipt.specs.Receipt.{Checked}
 use Rattle.receipt.specs.declared.Head.{Head}
 use Rattle.theory.specs.Table.{closes, zeros, check}
 use Rattle.theory.specs.Refusing.{at_most, first_refusal, unless}
 use Rattle.theory.specs.Calls.{IndexCall, index_call}
 use Rattle.theory.specs.Heads.{head}
 use Rattle.index.specs.declared.Next.{Next}
-use Rattle.index.specs.declared.Due.{Due}
 
 -- the group that begins at s, of which k entries are passed: at a 0 it ends, and the next one begins after it
 unfoldable pub next_from : ℕ → ℕ → List ℤ → Next
@@ -27,17 +24,14 @@ unfoldable pub heads_at : ℕ → List ℤ → ℕ → List Head
 heads_at zero t at = []
 heads_at (suc r) t at = (next_head t at).head ∷ heads_at r t (next_head t at).next
 
--- the answer, and how many heads are stored
-abbrev pub due_refused : Refusal → Due
-due_refused r = record { answer = indexing.Refused r; heads = 0 }
+-- how many heads are stored, where the call isn't refused
+abbrev pub due_checked : Checked → ℕ → ℕ → Result ℕ Refusal
+due_checked c groups room = unless (first_refusal (c ∷ at_most groups room HeadsShort ∷ [])) Err (Ok groups)
 
-abbrev pub due_checked : Checked → ℕ → ℕ → Due
-due_checked c groups room = unless (first_refusal (c ∷ at_most groups room HeadsShort ∷ [])) due_refused (record { answer = indexing.Indexed; heads = groups })
-
-unfoldable pub due_of : ℕ → List ℤ → ℕ → Due
+unfoldable pub due_of : ℕ → List ℤ → ℕ → Result ℕ Refusal
 due_of n t room = due_checked (check n t) (zeros t) room
 
-abbrev pub called : Indexing → List Head → IndexCall
+abbrev pub called : Checked → List Head → IndexCall
 called r hs = record { answer = r; heads = hs }
 
 -- the first `room` heads of an array are lent, and the others stay

@@ -9,12 +9,10 @@ fn main(rt: HostRuntime) {
         return;
     }
     let mut strip = [0u8; report::INPUT];
-    let input = stream::read_input(&rt, &mut strip);
-    if input.failed {
+    let Ok(length) = stream::read_input(&rt, &mut strip) else {
         return;
-    }
+    };
     let mut out = [0u8; report::PRINTED];
-    let length = input.length;
     let printed = report::report(&strip[..length], &mut out);
     stream::write_output(&rt, &out[..printed]);
 }

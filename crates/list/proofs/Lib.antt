@@ -1,5 +1,6 @@
 pub mod Opens
 pub mod Rows
+pub mod Settling
 pub mod Sides
 pub mod Starting
 pub mod Calling

@@ -14,14 +14,12 @@ use lib.ListN.{length, get_or, take, drop, replicate, length-take, length-replic
 use lib.Seq.{take_at, drop_at, take-nil}
 use Rattle.general.specs.Booleans.{bit, true_not_false}
 use Rattle.general.specs.Lists.{mem_get_or, mem_index}
-use Rattle.receipt.specs.declared.Checked.{Checked}
-use Rattle.receipt.specs.declared.Checked.TheVariants.{Passed, Refused}
+use Rattle.std.specs.Prelude.{Err}
 use Rattle.receipt.specs.declared.Fault.TheVariants.{RowsShort}
-use Rattle.receipt.specs.declared.Listing.TheVariants as listing
 use Rattle.receipt.specs.declared.Outcome.{Outcome}
 use Rattle.receipt.specs.declared.Outcome.TheVariants.{LaidOut, NoLayout, Stopped}
 use Rattle.receipt.specs.declared.Refusal.{Refusal}
-use Rattle.receipt.specs.Receipt.{outcome_number, refusal, receipt}
+use Rattle.receipt.specs.Receipt.{Checked, pass, outcome_number, refusal, receipt}
 use Rattle.receipt.specs.Answers.{listing_receipt, rows_written, says_more}
 use Rattle.receipt.proofs.Numbers.{same_outcome}
 use Rattle.theory.specs.Calls.{over, SearchCall, ListCall, listed_call, list_refused, list_call}
@@ -31,7 +29,7 @@ use Rattle.theory.specs.Listing.{list_tree, list_needs, list, row_bytes, rows_of
 use Rattle.theory.specs.Order.{◌≺◌}
 use Rattle.theory.specs.Refusing.{at_most, first_refusal, NotRefused, RefusedFirst}
 use Rattle.theory.specs.Table.{check, Accepted, WithinLimits}
-use Rattle.theory.specs.Tree.{Found, choices_found, Result, finished, stop}
+use Rattle.theory.specs.Tree.{Found, choices_found, Limited, finished, stop}
 use Rattle.theory.specs.Unknown.{UnknownInTable, Names}
 use Rattle.theory.proofs.Ascending.{ascends_at}
 use Rattle.theory.proofs.Budget.{stopped_iff, count_min, limited_short, larger_budget}
@@ -56,11 +54,11 @@ module _ (n : ℕ) (t : List ℤ) (k b : ℕ) (rows : List ℕ) (s : ListCall) (
   abbrev checks : List Checked
   checks = check n t ∷ at_most (k * n) (length rows) RowsShort ∷ []
 
-  by_checks : Refusing listing.Refused (λ (u : ListCall). u.answer) (λ w. list_refused w rows) (first_refusal checks) (listed_call n k (list n t k b) rows) s
+  by_checks : Refusing (λ (u : ListCall). u.answer) (λ w. list_refused w rows) (first_refusal checks) (listed_call n k (list n t k b) rows) s
   unfolding list_call
   by_checks = record { is = is; turns = λ w. refl; accepts = λ w e. let z : ◌≡◌ {A = ℕ} 0 1 = cc in omega arith }
 
-  checked : (first_refusal checks ≡ Passed) ↔ Acceptable n t k rows
+  checked : (first_refusal checks ≡ pass) ↔ Acceptable n t k rows
   checked =
       let p = both_pass (accepted_exactly n t) (last_passes (most_passes (k * n) (length rows) RowsShort)) in
       (λ e. let h = p.0 e in record { table = h.0; room = h.1 }, λ a. p.1 (a.table, a.room))
@@ -70,15 +68,15 @@ module _ (n : ℕ) (t : List ℤ) (k b : ℕ) (rows : List ℕ) (s : ListCall) (
   is_listed a = accepted_is by_checks (checked.1 a)
 
   -- demand 1: "Every table .. within the limits of document 01, with room lent for the results, is accepted"; "Every other input is refused"
-  pub list_accepts : NotRefused listing.Refused s.answer ↔ Acceptable n t k rows
+  pub list_accepts : NotRefused s.answer ↔ Acceptable n t k rows
   list_accepts = accepted_when by_checks checked
 
   -- 0 laid out, 10 no layout, 11 stopped, with the count; "place is the rows written"
-  pub list_answers : NotRefused listing.Refused s.answer → (o : Outcome) × (c : ℕ) × (listing_receipt s.answer ≡ receipt (outcome_number o) (rows_written s.answer) c)
+  pub list_answers : NotRefused s.answer → (o : Outcome) × (c : ℕ) × (listing_receipt s.answer ≡ receipt (outcome_number o) (rows_written s.answer) c)
   list_answers h = let r = list n t k b in (r.outcome, r.count, rw (is_listed (list_accepts.0 h)))
 
   -- demand 1: "a refused call changes no lent element"; and it has no "more"
-  pub list_refused_unchanged : (w : Refusal) → s.answer ≡ listing.Refused w → (s.rows ≡ rows) × ¬ More s
+  pub list_refused_unchanged : (w : Refusal) → s.answer ≡ Err w → (s.rows ≡ rows) × ¬ More s
   list_refused_unchanged w e = (ap (λ (u : ListCall). u.rows) (unchanged by_checks w e).2, λ m. true_not_false m (ap says_more e))
 
   -- A2: 5 is for the first unknown placement, with its group; "for all other numbers it is 0"
@@ -88,15 +86,15 @@ module _ (n : ℕ) (t : List ℤ) (k b : ℕ) (rows : List ℕ) (s : ListCall) (
       (outcome_names (list n t k b).outcome _ _)
 
   -- refused exactly with the first check that refuses
-  pub list_refused_lem : (w : Refusal) → (s.answer ≡ listing.Refused w) ↔ RefusedFirst checks w
+  pub list_refused_lem : (w : Refusal) → (s.answer ≡ Err w) ↔ RefusedFirst checks w
   list_refused_lem w = (λ e. let o = unchanged by_checks w e in let q : o.0 ≡ w = cc (ap (λ (x : ListCall). x.answer) o.2) in (first_refuses checks w).0 (rw q at o.1), λ f. refused_with by_checks w ((first_refuses checks w).1 f))
 
   -- "Turned away: 1 to 5,
-  pub list_table_refused : (w : Refusal) → check n t ≡ Refused w → s.answer ≡ listing.Refused w
+  pub list_table_refused : (w : Refusal) → check n t ≡ Err w → s.answer ≡ Err w
   list_table_refused w e = refused_with by_checks w (rw e)
 
   -- then 27, row room under k times n."
-  pub list_rows_short : WithinLimits n t → length rows < k * n → s.answer ≡ listing.Refused (refusal RowsShort 0)
+  pub list_rows_short : WithinLimits n t → length rows < k * n → s.answer ≡ Err (refusal RowsShort 0)
   list_rows_short w h = let a : Accepted n t = (accepted_exactly n t).1 w in refused_with by_checks (refusal RowsShort 0) (rw (a, lt-ltb (length rows) (k * n) h))
 
 listed : {n : ℕ} {t : List ℤ} {k b : ℕ} {rows : List ℕ} {s : ListCall} → Call n t k b rows s → s ≡ listed_call n k (list n t k b) rows
@@ -109,7 +107,7 @@ module _ {n : ℕ} {t : List ℤ} {k b : ℕ} {rows : List ℕ} {s : ListCall} (
   abbrev all : List Choice
   all = layouts n (clauses t)
 
-  abbrev r : Result Choice
+  abbrev r : Limited Choice
   r = list n t k b
 
   accepted : Accepted n t
@@ -163,13 +161,13 @@ module _ {n : ℕ} {t : List ℤ} {k b : ℕ} {rows : List ℕ} {s : ListCall} (
   unfolding row_bytes
   stopped_rows e =
       let none_taken : k - 0 ≡ k = omega arith in
-      ap (λ (x : Result Choice). rows_of n k (choices_found x.found)) (stopped_is e) ∙ rw (take-nil k, none_taken)
+      ap (λ (x : Limited Choice). rows_of n k (choices_found x.found)) (stopped_is e) ∙ rw (take-nil k, none_taken)
 
   -- "Stopped: place 0, the first k times n bytes 0, no "more""; the count is the allowance
   pub list_stop : Reports s Stopped → (place_of s ≡ 0) × (take (k * n) s.rows ≡ replicate (k * n) 0) × ¬ More s × (count_of s ≡ b)
   list_stop e =
       let q = stopped_is e in
-      let none_found : length r.found ≡ 0 = ap (λ (x : Result Choice). length x.found) q in
+      let none_found : length r.found ≡ 0 = ap (λ (x : Limited Choice). length x.found) q in
       let empty = stopped_rows e in (
         omega (arith, place_is),
         ap (take (k * n)) rows_are ∙ rw empty (take_at (replicate (k * n) 0) (drop (k * n) rows) (k * n) (length-replicate (k * n) 0)),
@@ -228,7 +226,7 @@ module _ {n : ℕ} {t : List ℤ} {k b : ℕ} {rows : List ℕ} {s : ListCall} (
     list_unused_zero = rw (list_rows, list_place) (rows_zero n k all long)
 
     outcome_is : r.outcome ≡ finished r.found
-    outcome_is = let f = listed_finished n t accepted k b going in ap (λ (x : Result Choice). x.outcome) f ∙ sym (ap (λ (x : Result Choice). finished x.found) f)
+    outcome_is = let f = listed_finished n t accepted k b going in ap (λ (x : Limited Choice). x.outcome) f ∙ sym (ap (λ (x : Limited Choice). finished x.found) f)
 
     some_found : (d : Choice) → Solution n (clauses t) d → 0 < length r.found
     some_found d h = let w = mem_index all d [] ((layouts_exactly n (clauses t) d).1 h) in omega (arith, found_length, w.1)
@@ -321,7 +319,7 @@ module _ {n : ℕ} {t : List ℤ} {k b : ℕ} {rows : List ℕ} {s : ListCall} (
   -- where all layouts are rows, in terms of their number
   pub list_count_all : ¬ Reports s Stopped → ¬ More s → 8 * count_of s ≤ 2 ^ n + 7 * place_of s - 8
   list_count_all ends none =
-      let f : length r.found ≡ length (list_tree n t k).found = ap (λ (x : Result Choice). length x.found) (listed_finished n t accepted k b (going ends)) in
+      let f : length r.found ≡ length (list_tree n t k).found = ap (λ (x : Limited Choice). length x.found) (listed_finished n t accepted k b (going ends)) in
       let few : length r.found ≤ k = elim (dec_le (length r.found) k) [ yes h ↦ h | no h ↦ absurd (none (more_is ∙ lt-ltb k (length r.found) (omega arith))) ] in
       omega (arith, list_count_smaller, list_bound_all n t accepted k (omega arith), place_is)
 
@@ -345,9 +343,9 @@ module _ {n : ℕ} {t : List ℤ} {k b b' : ℕ} {rows rows' : List ℕ} {s s' :
   unfolding list
   list_larger_alike c d l h =
       let e : list n t k b' ≡ list n t k b = larger_budget b b' (list_tree n t k) l (λ q. h ((reports c Stopped).1 q)) in
-      let h' : ¬ Reports s' Stopped = λ q. h ((reports c Stopped).1 (sym (ap (λ (x : Result Choice). x.outcome) e) ∙ (reports d Stopped).0 q)) in
+      let h' : ¬ Reports s' Stopped = λ q. h ((reports c Stopped).1 (sym (ap (λ (x : Limited Choice). x.outcome) e) ∙ (reports d Stopped).0 q)) in
       record {
-        answer = ap (λ (u : ListCall). u.answer) (listed d ∙ ap (λ (x : Result Choice). listed_call n k x rows') e) ∙ sym (ap (λ (u : ListCall). u.answer) (listed c));
+        answer = ap (λ (u : ListCall). u.answer) (listed d ∙ ap (λ (x : Limited Choice). listed_call n k x rows') e) ∙ sym (ap (λ (u : ListCall). u.answer) (listed c));
         rows = list_rows d h' ∙ sym (list_rows c h);
       }
 

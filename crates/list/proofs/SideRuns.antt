@@ -15,10 +15,13 @@ use Rattle.list.specs.declared.Ending.TheVariants.{All}
 use Rattle.list.specs.declared.Level.{Level}
 use Rattle.list.specs.declared.Walk.{Walk}
 use Rattle.list.specs.Walk.{Splittable, Walked, under, counted, tree_run, run_from, split_run}
-use Rattle.list.proofs.Rows.{same_walked, walked_rows, walked_count, first_side, second_side}
+use Rattle.list.proofs.Rows.{same_walked, walked_rows, first_side, second_side}
 use Rattle.list.proofs.Sides.{side_run}
+use Rattle.occurrences.specs.declared.Index.{Index}
+use Rattle.tally.specs.declared.Tally.{Tally}
+use Rattle.notes.specs.declared.Notes.{Notes}
 
-module _ {ix st wk : List ℕ} {p : ℕ} {l : Level} {bytes : List ℕ} (k : Splittable ix st wk p l bytes) where
+module _ {ix : Index} {st : Tally} {p : ℕ} {l : Level} {bytes : List ℕ} (k : Splittable ix st p l bytes) where
   -- the codes of the two literals that become false
   pub first_is : (x : Literal) (c : ℕ) → x ≡ Pos p → c ≡ code_of x → assign (literal_at c) FALSE (state_in st) ≡ assign (Pos p) FALSE (state_in st)
   first_is x c made code = out_assigns p c (code ∙ ap code_of made) (state_in st)
@@ -28,7 +31,7 @@ module _ {ix st wk : List ℕ} {p : ℕ} {l : Level} {bytes : List ℕ} (k : Spl
 
   -- a side, which makes p the value t
   pub side_walked : (t : Literal) → var t ≡ 0 → (c : ℕ) → assign (literal_at c) FALSE (state_in st) ≡ assign (Pos p) t (state_in st) →
-      (st' wk' : List ℕ) (r : Bool) → Begun ix st c st' wk' r → (left row : ℕ) (lower : Level) → lower ≡ under p left row l →
+      (st' : Tally) (wk' : Notes) (r : Bool) → Begun ix st c st' wk' r → (left row : ℕ) (lower : Level) → lower ≡ under p left row l →
       (old new : List ℕ) (w : Walk) → Walked lower (run_from r lower ix st') old new w →
       Walked (under p left row l) (tree_run (under p left row l) (formula_of ix) (assign (Pos p) t (state_in st))) old new w
   side_walked t constant c is st' wk' r b left row lower e old new w h =
@@ -50,10 +53,7 @@ module _ {ix st wk : List ℕ} {p : ℕ} {l : Level} {bytes : List ℕ} (k : Spl
     abbrev lower : Level
     lower = under p (l.left - 1) l.row l
 
-    -- it is within its allowance, and within the rows that are left
-    pub first_count : w.count + 1 ≤ l.left
-    first_count = omega (arith, walked_count lower (tree_run lower f out) bytes mid w h)
-
+    -- it is within the rows that are left
     pub first_rows : l.row + w.written ≤ l.wanted
     first_rows = omega (arith, walked_rows lower (tree_run lower f out) bytes mid w h, k.lasting.rowable.next)
 
@@ -61,16 +61,6 @@ module _ {ix st wk : List ℕ} {p : ℕ} {l : Level} {bytes : List ℕ} (k : Spl
     first_whole other = first_side l p walks out taken some_left bytes mid w h other
 
     module _ (new : List ℕ) (v : Walk) (i : Walked (under p (l.left - (1 + w.count)) (l.row + w.written) l) (tree_run (under p (l.left - (1 + w.count)) (l.row + w.written) l) f taken) mid new v) where
-      abbrev rest : Level
-      rest = under p (l.left - (1 + w.count)) (l.row + w.written) l
-
-      -- both are
-      pub both_count : 1 + w.count + v.count ≤ l.left
-      both_count = omega (arith, first_count, walked_count rest (tree_run rest f taken) mid new v i)
-
-      pub both_rows : w.written + v.written ≤ l.wanted
-      both_rows = omega (arith, first_rows, walked_rows rest (tree_run rest f taken) mid new v i)
-
       -- what both sides come to, where the first has found all
       pub both_whole : w.ending ≡ All → Walked l (split_run p l f (state_in st)) bytes new (counted w.written (1 + w.count) v)
       both_whole all = second_side l p walks out taken some_left bytes mid w h k.lasting.rowable.next all new v i

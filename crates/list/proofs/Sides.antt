@@ -2,7 +2,7 @@
 use mathlib.Core.Path.{◌≡◌, ap, sym, ◌∙◌}
 use mathlib.Core.Bool.{Bool, true, false}
 use mathlib.Core.List.{List, []}
-use mathlib.Core.Option.{some}
+use Rattle.std.specs.Prelude.{Some}
 use Prim.Native.Nat.{ℕ, ◌+◌, ◌≤◌}
 use native.Mathlib.Omega.{arith}
 use lib.ListN.{length}
@@ -27,6 +27,9 @@ use Rattle.side.proofs.Calm.{rested_calm}
 use Rattle.side.proofs.Splitting.{side_begins, side_dead}
 use Rattle.list.specs.declared.Level.{Level}
 use Rattle.list.specs.Walk.{Lasting, Shut, Openable, Beginning, Begins, Walkable, Splittable, under, tree_run, run_from}
+use Rattle.occurrences.specs.declared.Index.{Index}
+use Rattle.tally.specs.declared.Tally.{Tally}
+use Rattle.notes.specs.declared.Notes.{Notes}
 
 -- what is not open does not become open
 shut_refines : {n m : ℕ} {s u : State} (from : ℕ) → WellFormed n s → WellFormed n u → Refines s u → Shut m s from → Shut m u from
@@ -34,12 +37,12 @@ shut_refines from w v r h p i o = h p i (record { positive = o.positive; inside 
 
 -- propagation -------------------------------------------------------------------------------------------------------
 
-module _ {ix st wk : List ℕ} {l : Level} {bytes : List ℕ} (k : Lasting ix l bytes) (b : Beginning ix st wk l) where
+module _ {ix : Index} {st : Tally} {wk : Notes} {l : Level} {bytes : List ℕ} (k : Lasting ix l bytes) (b : Beginning ix st wk l) where
   -- "Dead end: no layout here."
   pub died_run : Died (formula_of ix) (state_in st) → tree_run l (formula_of ix) (state_in st) ≡ run [] 0
   died_run d = at_dead_end k.within (open_picking k.within) _ (state_in st) b.well (died_settles k.within b.well d)
 
-  module _ {st' wk' : List ℕ} (r : Rested ix st st' wk') where
+  module _ {st' : Tally} {wk' : Notes} (r : Rested ix st st' wk') where
     rested_well : WellFormed l.variables (state_in st')
     rested_well = steps_well k.within r.steps.1 b.well
 
@@ -53,19 +56,19 @@ module _ {ix st wk : List ℕ} {l : Level} {bytes : List ℕ} (k : Lasting ix l 
       positive = b.positive;
     }
 
-    pub rested_splittable : (p : ℕ) → open_variable l.variables (state_in st') ≡ some p → Splittable ix st' wk' p l bytes
-    rested_splittable p e = record { lasting = k; calm = rested_calm r; whole = r.sound.whole; well = rested_well; branch = e }
+    pub rested_splittable : (p : ℕ) → open_variable l.variables (state_in st') ≡ Some p → Splittable ix st' p l bytes
+    rested_splittable p e = record { lasting = k; calm = rested_calm r; well = rested_well; branch = e }
 
 -- the sides of a split -----------------------------------------------------------------------------------------------
 
-module _ {ix st wk : List ℕ} {p : ℕ} {l : Level} {bytes : List ℕ} (k : Splittable ix st wk p l bytes) where
+module _ {ix : Index} {st : Tally} {p : ℕ} {l : Level} {bytes : List ℕ} (k : Splittable ix st p l bytes) where
   lowest : Least ◌≤◌ (Open l.variables (state_in st)) p
   lowest = rw k.branch at (open_least l.variables (state_in st))
 
   pub branch_open : Open l.variables (state_in st) p
   branch_open = lowest.member
 
-  module _ (x : ℕ) (t : Literal) (constant : var t ≡ 0) (is : assign (literal_at x) FALSE (state_in st) ≡ assign (Pos p) t (state_in st)) (st' wk' : List ℕ) where
+  module _ (x : ℕ) (t : Literal) (constant : var t ≡ 0) (is : assign (literal_at x) FALSE (state_in st) ≡ assign (Pos p) t (state_in st)) (st' : Tally) (wk' : Notes) where
     abbrev side_state : State
     side_state = assign (Pos p) t (state_in st)
 
@@ -93,7 +96,7 @@ module _ {ix st wk : List ℕ} {p : ℕ} {l : Level} {bytes : List ℕ} (k : Spl
     }
       where
         go : (r : Bool) → Begun ix st x st' wk' r → Begins ix st' wk' (under p left row l) r
-        go true b = b.1
+        go true b = tt
         go false b =
             let is_side = side_begins k.calm k.lasting.rowable.small k.well branch_open x t constant is st' wk' b in
             record { ready = b.1; well = rw is_side side_well; shut = rw is_side side_shut; positive = omega arith }

@@ -18,8 +18,11 @@ use Rattle.occurrences.specs.Index.{formula_of}
 use Rattle.tally.specs.Tally.{state_in}
 use Rattle.start.specs.Starting.{StartOf}
 use Rattle.list.specs.Walk.{Walkable, Begins, Listable, run_from, top}
+use Rattle.occurrences.specs.declared.Index.{Index}
+use Rattle.tally.specs.declared.Tally.{Tally}
+use Rattle.notes.specs.declared.Notes.{Notes}
 
-module _ {n : ℕ} {t : List ℤ} {k : ℕ} {bytes : List ℕ} (b : Listable n t k bytes) (ix st wk : List ℕ) (is : formula_of ix ≡ clauses t) (left : ℕ) where
+module _ {n : ℕ} {t : List ℤ} {k : ℕ} {bytes : List ℕ} (b : Listable n t k bytes) (ix : Index) (st : Tally) (wk : Notes) (is : formula_of ix ≡ clauses t) (left : ℕ) where
   within : Within n (formula_of ix)
   within = rw is (accepted_within n t b.accepted)
 
@@ -30,7 +33,7 @@ module _ {n : ℕ} {t : List ℤ} {k : ℕ} {bytes : List ℕ} (b : Listable n t
   }
     where
       go : (r : Bool) → StartOf ix st wk r → Begins ix st wk (top n k left) r
-      go true s = s.1
+      go true s = tt
       go false s = record {
         ready = s.ready;
         well = steps_well within s.steps.1 (initial_well n);
@@ -40,7 +43,7 @@ module _ {n : ℕ} {t : List ℤ} {k : ℕ} {bytes : List ℕ} (b : Listable n t
 
   pub start_run : (r : Bool) → StartOf ix st wk r → list_tree n t k ≡ run_from r (top n k left) ix st
   unfolding list_tree
-  start_run true s = rw (← is) (at_dead_end within (open_picking within) (suc k) initial (initial_well n) (died_settles within (initial_well n) s.0))
+  start_run true s = rw (← is) (at_dead_end within (open_picking within) (suc k) initial (initial_well n) (died_settles within (initial_well n) s))
   start_run false s =
       let all : k - 0 ≡ k = omega arith in
       rw (← is, all)

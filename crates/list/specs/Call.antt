@@ -1,8 +1,9 @@
 -- A call of List, and the words in which document 02's A6 speaks of it.
-use Rattle.std.specs.Prelude.{◌≡◌, true, List, map, ℕ, ◌*◌, ◌≤◌, ℤ, length, take, drop}
+use Rattle.std.specs.Prelude.{◌≡◌, true, List, map, ℕ, ◌*◌, ◌≤◌, ℤ, length, take, drop, Result}
 use Rattle.general.specs.Booleans.{bit}
-use Rattle.receipt.specs.declared.Listing.{Listing}
+use Rattle.receipt.specs.declared.Listed.{Listed}
 use Rattle.receipt.specs.declared.Outcome.{Outcome}
+use Rattle.receipt.specs.declared.Refusal.{Refusal}
 use Rattle.receipt.specs.Receipt.{outcome_number}
 use Rattle.receipt.specs.Answers.{listing_receipt, says_more}
 use Rattle.theory.specs.Calls.{ListCall, list_call}
@@ -10,7 +11,7 @@ use Rattle.theory.specs.Formula.{Choice}
 use Rattle.theory.specs.Table.{WithinLimits}
 
 -- what the code answers, and the rows after it
-abbrev pub called : Listing → List ℕ → ListCall
+abbrev pub called : Result Listed Refusal → List ℕ → ListCall
 called r rows = record { answer = r; rows = rows }
 
 -- "within the limits of document 01, with room lent for the results"

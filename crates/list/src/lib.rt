@@ -1,27 +1,26 @@
 // List: the layouts of a table in order, as many as rows are asked for (document 02, A6), by the tree that splits on the lowest open variable.
 #![tactic(auto)]
 
-ghost use Rattle.std.specs.Prelude.{◌≡◌, ◌+◌, ◌*◌, ltb};
+ghost use Rattle.std.specs.Prelude.{◌≡◌, ◌+◌, ◌*◌, ltb, is_err};
 ghost use Rattle.std.specs.Int.{w32, w64};
 ghost use Rattle.std.proofs.Common.{Fits};
 ghost use Rattle.theory.specs.Listing.{open_variable, list_tree};
 ghost use Rattle.theory.specs.Calls.{list_call};
 ghost use Rattle.occurrences.specs.Index.{formula_of};
 ghost use Rattle.tally.specs.Tally.{state_in};
-ghost use Rattle.notes.specs.Notes.{Whole};
 ghost use Rattle.side.specs.Branch.{branch_of};
 ghost use Rattle.list.specs.Walk.{Openable, Rowable, Walkable, Splittable, Listable, under, leaf_run, run_from, split_run, counted, Walked, top, kept_rows, answer_of};
 ghost use Rattle.list.specs.Call.{called};
 
 use literal::{Literal, Variable};
+use moves::DeadEnd;
 use notes::Notes;
 use occurrences::Index;
-use receipt::{Checked, Fault, Listing, Outcome, Refusal};
-use side::Branch;
+use receipt::{Fault, Listed, Outcome, Refusal};
 use tally::Tally;
 
 // How a walk ends: with all there is to find, at a layout more than there are rows for, or at a split for which nothing is left of the allowance.
-#[derive(Clone, Copy)]
+#[derive(Clone, Copy, PartialEq, Eq)]
 pub enum Ending {
     All,
     More,
@@ -36,6 +35,14 @@ pub struct Walk {
     pub count: u32,
 }
 
+impl Walk {
+    const DEAD_END: Walk = Walk {
+        ending: Ending::All,
+        written: 0,
+        count: 0,
+    };
+}
+
 // Where a walk stands: of how many variables, from which one on an open one is looked for, the splits left, the rows asked for, and the next of them to write.
 #[derive(Clone, Copy)]
 pub struct Level {
@@ -47,16 +54,16 @@ pub struct Level {
 }
 
 // The lowest open variable. None below `from` is open.
-fn open_variable(state: &Tally, from: usize, n: usize) -> Branch
+fn open_variable(state: &Tally, from: usize, n: usize) -> Option<Variable>
     requires { Openable state.now from n }
     ensures { branch_of result ≡ open_variable n (state_in state.now) }
 {
     for p in from..n + 1 {
-        if tally::value_of(state, p) == 2 * (p as u16) {
-            return Branch::On(Variable(p as u16));
+        if state.value_of(p) == 2 * (p as u16) {
+            return Some(Variable(p as u16));
         }
     }
-    Branch::Nowhere
+    None
 }
 
 // A layout is a row; one more than was asked for is not written.
@@ -98,30 +105,20 @@ fn settle_and_decide(
     index: &Index,
     state: &mut Tally,
     work: &mut Notes,
-    dead: bool,
+    begun: Result<(), DeadEnd>,
     level: Level,
     rows: &mut [u8],
 ) -> Walk
-    requires { Walkable index.now state.old work.old dead level rows.old }
-    ensures walks { Walked level (run_from dead level index.now state.old) rows.old rows.new result }
-    ensures whole { Whole work.new }
+    requires { Walkable index.now state.old work.old (is_err begun) level rows.old }
+    ensures { Walked level (run_from (is_err begun) level index.now state.old) rows.old rows.new result }
 {
-    if dead {
-        return Walk {
-            ending: Ending::All,
-            written: 0,
-            count: 0,
-        };
+    if begun.is_err() {
+        return Walk::DEAD_END;
     }
-    if engine::propagate(index, state, work) {
-        return Walk {
-            ending: Ending::All,
-            written: 0,
-            count: 0,
-        };
+    if engine::propagate(index, state, work).is_err() {
+        return Walk::DEAD_END;
     }
-    let branch = open_variable(state, level.from, level.variables);
-    let Branch::On(p) = branch else {
+    let Some(p) = open_variable(state, level.from, level.variables) else {
         return write_row(level, state, rows);
     };
     split(index, state, work, p, level, rows)
@@ -137,9 +134,8 @@ fn split(
     level: Level,
     rows: &mut [u8],
 ) -> Walk
-    requires { Splittable index.now state.old work.old p.0 level rows.old }
-    ensures walks { Walked level (split_run p.0 level (formula_of index.now) (state_in state.old)) rows.old rows.new result }
-    ensures whole { Whole work.new }
+    requires { Splittable index.now state.old p.0 level rows.old }
+    ensures { Walked level (split_run p.0 level (formula_of index.now) (state_in state.old)) rows.old rows.new result }
 {
     if level.left == 0 {
         return Walk {
@@ -151,28 +147,15 @@ fn split(
     let mut second = *state;
     let x = Literal::new(p, true);
     let out = side::begin(index, state, work, x.code());
-    let a = settle_and_decide(
-        index,
-        state,
-        work,
-        out,
-        below(level, p, level.left - 1, level.row),
-        rows,
-    );
-    let ending = a.ending;
-    let Ending::All = ending else {
+    let lower = below(level, p, level.left - 1, level.row);
+    let a = settle_and_decide(index, state, work, out, lower, rows);
+    if a.ending != Ending::All {
         return through(a, 0, 1);
-    };
+    }
     let used = 1 + a.count;
     let taken = side::begin(index, &mut second, work, x.opposite().code());
-    let b = settle_and_decide(
-        index,
-        &mut second,
-        work,
-        taken,
-        below(level, p, level.left - used, level.row + a.written),
-        rows,
-    );
+    let rest = below(level, p, level.left - used, level.row + a.written);
+    let b = settle_and_decide(index, &mut second, work, taken, rest, rows);
     through(b, a.written, used)
 }
 
@@ -182,9 +165,8 @@ fn through(side: Walk, written: usize, splits: u32) -> Walk
     requires fits_2 { Fits w32 (splits + side.count) }
     ensures { result ≡ counted written splits side }
 {
-    let ending = side.ending;
     Walk {
-        ending,
+        ending: side.ending,
         written: written + side.written,
         count: splits + side.count,
     }
@@ -195,10 +177,10 @@ fn walk_table(table: &[i16], n: usize, k: usize, allowance: u32, rows: &mut [u8]
     requires { Listable n table.now k rows.old }
     ensures { Walked (top n k allowance) (list_tree n table.now k) rows.old rows.new result }
 {
-    let index = occurrences::build(table);
-    let mut state = [0u16; tally::SIZE];
-    let mut work = [0u16; notes::SIZE];
-    let dead = start::start(&index.words, &mut state, &mut work);
+    let index = Index::build(table);
+    let mut state = Tally::new();
+    let mut work = Notes::new();
+    let begun = start::start(&index, &mut state, &mut work);
     let level = Level {
         variables: n,
         from: 1,
@@ -206,7 +188,7 @@ fn walk_table(table: &[i16], n: usize, k: usize, allowance: u32, rows: &mut [u8]
         wanted: k,
         row: 0,
     };
-    settle_and_decide(&index.words, &mut state, &mut work, dead, level, rows)
+    settle_and_decide(&index, &mut state, &mut work, begun, level, rows)
 }
 
 // The room is under k times n, reckoned without the product.
@@ -220,58 +202,45 @@ fn is_short(room: usize, n: usize, k: usize) -> bool
 fn kept_rows(walk: Walk) -> usize
     ensures { result ≡ kept_rows walk }
 {
-    let ending = walk.ending;
-    match ending {
-        Ending::All => walk.written,
-        Ending::More => walk.written,
+    match walk.ending {
+        Ending::All | Ending::More => walk.written,
         Ending::Stopped => 0,
     }
 }
 
 // What a walk answers, with the rows that count.
-fn answer_of(walk: Walk, rows: usize) -> Listing
+fn answer_of(walk: Walk, rows: usize) -> Listed
     ensures { result ≡ answer_of walk rows }
 {
-    let ending = walk.ending;
-    let count = walk.count;
-    match ending {
-        Ending::All => Listing::Ended {
-            outcome: if rows == 0 {
-                Outcome::NoLayout
-            } else {
-                Outcome::LaidOut
-            },
-            rows,
-            more: false,
-            count,
-        },
-        Ending::More => Listing::Ended {
-            outcome: Outcome::LaidOut,
-            rows,
-            more: true,
-            count,
-        },
-        Ending::Stopped => Listing::Ended {
-            outcome: Outcome::Stopped,
-            rows,
-            more: false,
-            count,
-        },
+    let outcome = match walk.ending {
+        Ending::All if rows == 0 => Outcome::NoLayout,
+        Ending::All | Ending::More => Outcome::LaidOut,
+        Ending::Stopped => Outcome::Stopped,
+    };
+    Listed {
+        outcome,
+        rows,
+        more: walk.ending == Ending::More,
+        count: walk.count,
     }
 }
 
-pub fn list(table: &[i16], n: usize, k: usize, allowance: u32, rows: &mut [u8]) -> Listing
+#[tactic(auto, unfolding(theory::specs::Calls::list_call))]
+pub fn list(
+    table: &[i16],
+    n: usize,
+    k: usize,
+    allowance: u32,
+    rows: &mut [u8],
+) -> Result<Listed, Refusal>
     ensures { called result rows.new ≡ list_call n table.now k allowance rows.old }
 {
-    let checked = table::check_table(table, n);
-    if let Checked::Refused(refusal) = checked {
-        return Listing::Refused(refusal);
-    }
+    table::check_table(table, n)?;
     if is_short(rows.len(), n, k) {
-        return Listing::Refused(Refusal::new(Fault::RowsShort, 0));
+        return Err(Refusal::new(Fault::RowsShort, 0));
     }
     let walk = walk_table(table, n, k, allowance, rows);
     let kept = kept_rows(walk);
-    fill::clear_bytes(rows, kept * n, (k - kept) * n);
-    answer_of(walk, kept)
+    fill::clear(rows, kept * n, (k - kept) * n, 0);
+    Ok(answer_of(walk, kept))
 }

@@ -3,7 +3,6 @@
 
 ghost use Rattle.std.specs.Prelude.{◌≡◌};
 ghost use Rattle.theory.specs.Strip.{byte_of, mark_of, operand_bytes};
-ghost use Rattle.mark.specs.Found.{mark_found};
 
 use theory::Mark;
 
@@ -21,13 +20,6 @@ const CLOSES: u8 = 0x45;
 
 const ENDS: u8 = 0x5A;
 
-// The mark of a byte, where it has one.
-#[derive(Clone, Copy)]
-pub enum Found {
-    Mark(Mark),
-    Nothing,
-}
-
 pub fn byte(mark: Mark) -> u8
     ensures { result ≡ byte_of mark }
 {
@@ -42,19 +34,20 @@ pub fn byte(mark: Mark) -> u8
     }
 }
 
+// The mark of a byte, where it has one.
 #[tactic(auto, unfolding(theory::specs::Strip::mark_of, general::specs::Search::find))]
-pub fn of_byte(byte: u8) -> Found
-    ensures { mark_found result ≡ mark_of byte }
+pub fn of_byte(byte: u8) -> Option<Mark>
+    ensures { result ≡ mark_of byte }
 {
     match byte {
-        PLACEMENTS => Found::Mark(Mark::Placements),
-        CHAPTER => Found::Mark(Mark::Chapter),
-        OPENS => Found::Mark(Mark::Opens),
-        TAKEN => Found::Mark(Mark::Taken),
-        LEFT_OUT => Found::Mark(Mark::LeftOut),
-        CLOSES => Found::Mark(Mark::Closes),
-        ENDS => Found::Mark(Mark::Ends),
-        _ => Found::Nothing,
+        PLACEMENTS => Some(Mark::Placements),
+        CHAPTER => Some(Mark::Chapter),
+        OPENS => Some(Mark::Opens),
+        TAKEN => Some(Mark::Taken),
+        LEFT_OUT => Some(Mark::LeftOut),
+        CLOSES => Some(Mark::Closes),
+        ENDS => Some(Mark::Ends),
+        _ => None,
     }
 }
 

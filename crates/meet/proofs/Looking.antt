@@ -1,6 +1,5 @@
 -- Looks go together: by no step, by steps of rules 7 and 8, by two looks, and from before the clauses that face were gathered.
 use mathlib.Core.Path.{◌≡◌, sym, subst}
-use mathlib.Core.List.{List}
 use Prim.Native.Nat.{ℕ}
 use native.Mathlib.Omega.{arith}
 use Rattle.theory.proofs.Paired.{Relation, Looked, looked_none, looked_adds, looked_into, adds_any}
@@ -8,7 +7,7 @@ use Rattle.theory.proofs.Falls.{Falls, still, falls_steps, falls_adds, falls_dis
 use Rattle.occurrences.specs.Index.{formula_of}
 use Rattle.tally.specs.Tally.{state_in}
 use Rattle.notes.specs.declared.Block.{Block}
-use Rattle.notes.specs.Notes.{notes_of, block_at}
+use Rattle.notes.specs.Notes.{block_at}
 use Rattle.moves.specs.Moving.{Moved}
 use Rattle.moves.specs.Listing.{ListsIn, Listed, SpansIn}
 use Rattle.moves.proofs.Moves.{moved_refl, noting_trans}
@@ -17,21 +16,24 @@ use Rattle.gather.specs.Gathering.{Beside}
 use Rattle.gather.proofs.Besides.{beside_sound, beside_went}
 use Rattle.tie.specs.Tying.{Tied}
 use Rattle.meet.specs.Looking.{Lookable, LookedAt, Looking}
+use Rattle.occurrences.specs.declared.Index.{Index}
+use Rattle.tally.specs.declared.Tally.{Tally}
+use Rattle.notes.specs.declared.Notes.{Notes}
 
 -- other pairs
-pub looked_at_as : {K M : Relation} {ix st wk st' wk' : List ℕ} →
+pub looked_at_as : {K M : Relation} {ix : Index} {st : Tally} {wk : Notes} {st' : Tally} {wk' : Notes} →
     (Looked K (Listed st' wk') (formula_of ix) (state_in st) (state_in st') → Looked M (Listed st' wk') (formula_of ix) (state_in st) (state_in st')) →
     LookedAt K ix st wk st' wk' → LookedAt M ix st wk st' wk'
 looked_at_as i a =
     record { steps = a.steps; lookable = a.lookable; noting = a.noting; kept = a.kept; looked = i a.looked; paid = a.paid; fewer = a.fewer }
 
-pub looking_as : {K M : Relation} {ix st wk st' wk' : List ℕ} →
+pub looking_as : {K M : Relation} {ix : Index} {st : Tally} {wk : Notes} {st' : Tally} {wk' : Notes} →
     (Looked K (Listed st' wk') (formula_of ix) (state_in st) (state_in st') → Looked M (Listed st' wk') (formula_of ix) (state_in st) (state_in st')) →
     Looking K ix st wk st' wk' → Looking M ix st wk st' wk'
 looking_as i a = record { at = looked_at_as i a.at; carried = a.carried }
 
 -- steps
-module _ {ix st wk st' wk' : List ℕ} where
+module _ {ix : Index} {st : Tally} {wk : Notes} {st' : Tally} {wk' : Notes} where
   pub looking_fell : Lookable ix st wk → Falls (formula_of ix) (state_in st) (state_in st') → Moved ix st wk st' wk' → Looking (λ g h. ⊥) ix st wk st' wk'
   looking_fell l f m = record {
     at = record {
@@ -60,11 +62,11 @@ module _ {ix st wk st' wk' : List ℕ} where
     carried = t.carried;
   }
 
-pub looking_none : {ix st wk : List ℕ} → Lookable ix st wk → Looking (λ g h. ⊥) ix st wk st wk
+pub looking_none : {ix : Index} {st : Tally} {wk : Notes} → Lookable ix st wk → Looking (λ g h. ⊥) ix st wk st wk
 looking_none l = looking_fell l still (moved_refl l.sound)
 
 -- two looks
-module _ {K M N : Relation} {ix st wk st' wk' st'' wk'' : List ℕ} where
+module _ {K M N : Relation} {ix : Index} {st : Tally} {wk : Notes} {st' : Tally} {wk' : Notes} {st'' : Tally} {wk'' : Notes} where
   pub looking_then : (Looked K (Listed st'' wk'') (formula_of ix) (state_in st) (state_in st') → Looked M (Listed st'' wk'') (formula_of ix) (state_in st') (state_in st'') →
       Looked N (Listed st'' wk'') (formula_of ix) (state_in st) (state_in st'')) → Looking K ix st wk st' wk' → Looking M ix st' wk' st'' wk'' → Looking N ix st wk st'' wk''
   looking_then i a b = record {
@@ -81,12 +83,12 @@ module _ {K M N : Relation} {ix st wk st' wk' st'' wk'' : List ℕ} where
   }
 
 -- the second makes steps alone
-pub looking_steps : {K : Relation} {ix st wk st' wk' st'' wk'' : List ℕ} → Looking K ix st wk st' wk' → Looking (λ g h. ⊥) ix st' wk' st'' wk'' → Looking K ix st wk st'' wk''
+pub looking_steps : {K : Relation} {ix : Index} {st : Tally} {wk : Notes} {st' : Tally} {wk' : Notes} {st'' : Tally} {wk'' : Notes} → Looking K ix st wk st' wk' → Looking (λ g h. ⊥) ix st' wk' st'' wk'' → Looking K ix st wk st'' wk''
 looking_steps = looking_then (λ a b. looked_adds a b.adds)
 
 -- clauses were gathered before it
-module _ {ix st wk wk₁ : List ℕ} (l : Lookable ix st wk) (b : Beside wk wk₁) where
-  same_block : (i : ℕ) → block_at (notes_of wk₁) i ≡ block_at (notes_of wk) i
+module _ {ix : Index} {st : Tally} {wk wk₁ : Notes} (l : Lookable ix st wk) (b : Beside wk wk₁) where
+  same_block : (i : ℕ) → block_at wk₁ i ≡ block_at wk i
   same_block i = rw b.blocks
 
   pub lookable_beside : Lookable ix st wk₁
@@ -96,7 +98,7 @@ module _ {ix st wk wk₁ : List ℕ} (l : Lookable ix st wk) (b : Beside wk wk�
     blocks = record { at = λ i h. subst (SpansIn st) (sym (same_block i)) (l.blocks.at i (omega (arith, b.blocks_end))) };
   }
 
-  pub looked_beside : {K : Relation} {st' wk' : List ℕ} → LookedAt K ix st wk₁ st' wk' → LookedAt K ix st wk st' wk'
+  pub looked_beside : {K : Relation} {st' : Tally} {wk' : Notes} → LookedAt K ix st wk₁ st' wk' → LookedAt K ix st wk st' wk'
   looked_beside a = record {
     steps = a.steps;
     lookable = a.lookable;

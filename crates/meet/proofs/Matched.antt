@@ -21,14 +21,17 @@ use Rattle.theory.proofs.Counts.{Distinct, Wide, not_both}
 use Rattle.theory.proofs.Pairs.{Meets, asks_crossed}
 use Rattle.occurrences.specs.Index.{Indexed, clause_count, clause_of, formula_of}
 use Rattle.occurrences.proofs.Formulas.{index_before}
-use Rattle.tally.specs.Tally.{tally_of, state_in, value_in}
+use Rattle.tally.specs.Tally.{state_in, value_in}
 use Rattle.tally.specs.Ring.{Classes}
 use Rattle.theory.proofs.States.{value_variable}
 use Rattle.gather.proofs.Written.{known, stands_for}
 use Rattle.tie.specs.Tying.{Tying}
 use Rattle.meet.specs.Meeting.{Marked, Like, Across, MetBy}
-use Rattle.meet.specs.declared.Met.TheVariants.{Apart, Common, Crossed}
+use Rattle.std.specs.Prelude.{None, Some}
+use Rattle.meet.specs.declared.Met.TheVariants.{Common, Crossed}
 use Rattle.meet.proofs.Clauses.{wide_open, code_high}
+use Rattle.occurrences.specs.declared.Index.{Index}
+use Rattle.tally.specs.declared.Tally.{Tally}
 
 -- clauses as they stand --------------------------------------------------------------------------------------------
 
@@ -49,13 +52,13 @@ module _ {dg dh : Clause} {marks : List ℕ} (m : Marked dg marks) (open_h : (y 
   crosses b n = rw (var_opposite b, opposite_opposite b) (m.all b n)
 
   module _ (wide : Wide dg × Wide dh) where
-    pub apart_unmet : MetBy dh marks Apart → (a b : Literal) → ¬ Meets Wide dg dh a b
+    pub apart_unmet : MetBy dh marks None → (a b : Literal) → ¬ Meets Wide dg dh a b
     apart_unmet met a b k = ⊎_elim
         (λ n. k.apart (met a (opposite b) n k.crossed_by (inl (m.all a k.left)) (crosses b k.crossing) ∙ var_opposite b))
         (λ n. k.apart (sym (var_opposite a) ∙ met (opposite a) (opposite b) n k.crossed_by (inr (crosses a k.left)) (crosses b k.crossing) ∙ var_opposite b))
         k.right
 
-    pub common_meets : Distinct dh → (x : ℕ) → MetBy dh marks (Common x) → (b : Literal) × Meets Wide dg dh (literal_at x) b
+    pub common_meets : Distinct dh → (x : ℕ) → MetBy dh marks (Some (Common x)) → (b : Literal) × Meets Wide dg dh (literal_at x) b
     common_meets kh x (o, n, e, (y, j, q)) = (
       opposite y,
       record {
@@ -73,7 +76,7 @@ module _ {dg dh : Clause} {marks : List ℕ} (m : Marked dg marks) (open_h : (y 
         codes_same : var (literal_at x) ≡ var y → literal_at x ≡ opposite y
         codes_same v = sym (literal_at_code_of (literal_at x)) ∙ ap literal_at (sym e ∙ ap (λ (p : ℕ). get_or marks p 0) v ∙ q) ∙ literal_at_code_of (opposite y)
 
-    pub crossed_meets : (low high : ℕ) → MetBy dh marks (Crossed low high) → Meets Wide dg dh (opposite (literal_at low)) (opposite (literal_at high))
+    pub crossed_meets : (low high : ℕ) → MetBy dh marks (Some (Crossed low high)) → Meets Wide dg dh (opposite (literal_at low)) (opposite (literal_at high))
     crossed_meets low high (o, l, (n, e), (j, q)) = record {
       both = wide;
       left = across_there (literal_at low) n e;
@@ -89,14 +92,14 @@ meets_self f w k a b m = not_both k b (wide_open f w b m.crossing) m.crossing m.
 
 -- clauses of the index ---------------------------------------------------------------------------------------------
 
-module _ (ix st : List ℕ) (index : Indexed ix) (classes : Classes (tally_of st).values (tally_of st).links) where
+module _ (ix : Index) (st : Tally) (index : Indexed ix) (classes : Classes st.values st.links) where
   -- what stands in a clause is of a root
   pub standing_root : (g : ℕ) → g < clause_count ix → (y : Literal) → Memᴰ y (standing (state_in st) (clause_of ix g)) → (value_in st (var y) ≡ 2 * var y) × (var y ≤ max_variables)
   standing_root g h y m =
       let k = standing_mem (state_in st) (clause_of ix g) y m in
       let l = k.written in
       let b = known index g h l k.member in
-      let e : var y ≡ value_in st (var l) / 2 = sym (ap var k.valued) ∙ value_variable (state_in st) l ∙ stands_for (tally_of st).values (var l) b in
+      let e : var y ≡ value_in st (var l) / 2 = sym (ap var k.valued) ∙ value_variable (state_in st) l ∙ stands_for st.values (var l) b in
       rw e (classes.rooted (var l) b, omega (arith, classes.range (var l) b))
 
   pub code_root : (g : ℕ) → g < clause_count ix → (x : ℕ) → Memᴰ (literal_at x) (standing (state_in st) (clause_of ix g)) → (value_in st (x / 2) ≡ 2 * (x / 2)) × (x < codes)

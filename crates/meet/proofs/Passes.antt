@@ -16,14 +16,16 @@ use Rattle.theory.proofs.Clauses.{mem_standing}
 use Rattle.theory.proofs.Asks.{Asks}
 use Rattle.theory.proofs.Looks.{Passing, pass_asks, pass_goes}
 use Rattle.occurrences.specs.Index.{Indexed, clause_count, clause_of, formula_of}
-use Rattle.tally.specs.Tally.{tally_of, state_in, value_in}
+use Rattle.tally.specs.Tally.{state_in, value_in}
 use Rattle.tally.specs.Ring.{Classes}
 use Rattle.meet.specs.Meeting.{Marked, Like}
 use Rattle.meet.proofs.Clauses.{standing_cases, code_high}
 use Rattle.meet.proofs.Matched.{code_root}
+use Rattle.occurrences.specs.declared.Index.{Index}
+use Rattle.tally.specs.declared.Tally.{Tally}
 
 -- some rule asks that the literal of an open root with code x becomes false
-pub record Falling (ix st : List ℕ) (x : ℕ) : Type 0 where
+pub record Falling (ix : Index) (st : Tally) (x : ℕ) : Type 0 where
   pub opened : 1 < x
   pub below : x < codes
   pub root : value_in st (x / 2) ≡ 2 * (x / 2)
@@ -41,7 +43,7 @@ module _ {d : Clause} {marks : List ℕ} (m : Marked d marks) (y : Literal) (lik
   like_stands = rw (like, literal_at_code_of y) at (m.only (var y) like_open (omega (arith, like, code_high y like_open)))
 
 -- v is the value of a literal of h, and marked
-module _ (ix st st' : List ℕ) (index : Indexed ix) (classes : Classes (tally_of st').values (tally_of st').links) (g h : ℕ) (inside : h < clause_count ix)
+module _ (ix : Index) (st st' : Tally) (index : Indexed ix) (classes : Classes st'.values st'.links) (g h : ℕ) (inside : h < clause_count ix)
     (b : Before (clause_of ix g) (clause_of ix h) (formula_of ix) ⊎ Before (clause_of ix h) (clause_of ix g) (formula_of ix)) {y : Literal} {marks : List ℕ}
     (m : Marked (standing (state_in st) (clause_of ix g)) marks) (o : Passing (formula_of ix) (state_in st) (state_in st') (clause_of ix g) (clause_of ix h) y) (l : Literal)
     (member : Memᴰ l (clause_of ix h)) (v : ℕ) (is : v ≡ code_of (value (state_in st') l)) (same : get_or marks (v / 2) 0 ≡ v) where

@@ -1,5 +1,5 @@
 -- Two wide clauses as they stand: one is marked by variable, and the other is read against the marks.
-use Rattle.std.specs.Prelude.{◌≡◌, ◌⊎◌, ℕ, ◌/◌, ◌<◌, get_or}
+use Rattle.std.specs.Prelude.{◌≡◌, ◌⊎◌, ℕ, ◌/◌, ◌<◌, get_or, Option, None, Some}
 use mathlib.Core.List.{List, Memᴰ}
 use Rattle.literal.specs.declared.Literal.{Literal}
 use Rattle.literal.specs.Literal.{var, opposite, code_of, literal_at}
@@ -7,16 +7,18 @@ use Rattle.theory.specs.Formula.{Clause}
 use Rattle.theory.specs.State.{standing}
 use Rattle.theory.proofs.Counts.{Distinct, Wide}
 use Rattle.occurrences.specs.Index.{Indexed, clause_count, clause_of}
-use Rattle.tally.specs.Tally.{tally_of, state_in}
+use Rattle.tally.specs.Tally.{state_in}
 use Rattle.tally.specs.Ring.{Classes}
 use Rattle.tally.specs.Counts.{Exact}
 use Rattle.meet.specs.declared.Met.{Met}
-use Rattle.meet.specs.declared.Met.TheVariants.{Apart, Common, Crossed}
+use Rattle.meet.specs.declared.Met.TheVariants.{Common, Crossed}
+use Rattle.occurrences.specs.declared.Index.{Index}
+use Rattle.tally.specs.declared.Tally.{Tally}
 
 -- clause g is wide, and no variable stands in it twice
-pub record Readable (ix st : List ℕ) (g : ℕ) : Type 0 where
+pub record Readable (ix : Index) (st : Tally) (g : ℕ) : Type 0 where
   pub index : Indexed ix
-  pub classes : Classes (tally_of st).values (tally_of st).links
+  pub classes : Classes st.values st.links
   pub inside : g < clause_count ix
   pub wide : Wide (standing (state_in st) (clause_of ix g))
   pub distinct : Distinct (standing (state_in st) (clause_of ix g))
@@ -39,21 +41,21 @@ abbrev pub Crosses : Clause → List ℕ → ℕ → Type 0
 Crosses d marks x = Memᴰ (literal_at x) d × Across marks (literal_at x)
 
 -- a common literal and one that crosses, or two that cross; or neither
-abbrev pub MetBy : Clause → List ℕ → Met → Type 0
-MetBy d marks Apart = (x y : Literal) → Memᴰ x d → Memᴰ y d → Like marks x ⊎ Across marks x → Across marks y → var x ≡ var y
-MetBy d marks (Common x) = (1 < x) × Memᴰ (literal_at x) d × Like marks (literal_at x) × ((y : Literal) × Memᴰ y d × Across marks y)
-MetBy d marks (Crossed low high) = (1 < low) × (low / 2 < high / 2) × Crosses d marks low × Crosses d marks high
+abbrev pub MetBy : Clause → List ℕ → Option Met → Type 0
+MetBy d marks None = (x y : Literal) → Memᴰ x d → Memᴰ y d → Like marks x ⊎ Across marks x → Across marks y → var x ≡ var y
+MetBy d marks (Some (Common x)) = (1 < x) × Memᴰ (literal_at x) d × Like marks (literal_at x) × ((y : Literal) × Memᴰ y d × Across marks y)
+MetBy d marks (Some (Crossed low high)) = (1 < low) × (low / 2 < high / 2) × Crosses d marks low × Crosses d marks high
 
 -- clause h, if it is wide
-pub record Meetable (ix st marks : List ℕ) (h : ℕ) : Type 0 where
+pub record Meetable (ix : Index) (st : Tally) (marks : List ℕ) (h : ℕ) : Type 0 where
   pub index : Indexed ix
-  pub exact : Exact ix (tally_of st).values (tally_of st).counts
-  pub classes : Classes (tally_of st).values (tally_of st).links
+  pub exact : Exact ix st.values st.counts
+  pub classes : Classes st.values st.links
   pub inside : h < clause_count ix
   pub distinct : Wide (standing (state_in st) (clause_of ix h)) → Distinct (standing (state_in st) (clause_of ix h))
   pub unseen : get_or marks 0 0 ≡ 2
 
-abbrev pub MetWide : Clause → List ℕ → Met → Type 0
-MetWide d marks Apart = Wide d → MetBy d marks Apart
-MetWide d marks (Common x) = Wide d × MetBy d marks (Common x)
-MetWide d marks (Crossed low high) = Wide d × MetBy d marks (Crossed low high)
+abbrev pub MetWide : Clause → List ℕ → Option Met → Type 0
+MetWide d marks None = Wide d → MetBy d marks None
+MetWide d marks (Some (Common x)) = Wide d × MetBy d marks (Some (Common x))
+MetWide d marks (Some (Crossed low high)) = Wide d × MetBy d marks (Some (Crossed low high))

@@ -1,23 +1,23 @@
 -- What the memo says of a formula stays true, through marks and numbers and through a split.
 use mathlib.Core.Path.{◌≡◌, refl, ap, ◌∙◌}
-use mathlib.Core.List.{List}
 use Prim.Native.Nat.{ℕ, ◌<◌}
 use native.Mathlib.Omega.{arith}
 use Rattle.theory.specs.Formula.{Formula}
 use Rattle.theory.specs.State.{State}
 use Rattle.theory.specs.Memo.{key, Slot, Known, Kept}
 use Rattle.theory.proofs.Memo.{learned_nothing, learned_put, kept_refl, kept_trans, kept_split}
+use Rattle.memo.specs.declared.Memory.{Memory}
 use Rattle.memo.specs.Memory.{slots_of, slot_count, Empty, Spared, Holding, Learning, Remembering, Remembered}
 use Rattle.memo.proofs.Slots.{spared_changed, spared_slots}
 
-pub empty_remembering : {n : ℕ} {m : List ℕ} (f : Formula) → Empty n m → Remembering n f m
+pub empty_remembering : {n : ℕ} {m : Memory} (f : Formula) → Empty n m → Remembering n f m
 empty_remembering {n} {m} f e = record { sized = e.sized; learned = learned_nothing (slots_of n m) e.nothing }
 
-module _ {n : ℕ} {f : Formula} {m : List ℕ} (h : Remembering n f m) where
+module _ {n : ℕ} {f : Formula} {m : Memory} (h : Remembering n f m) where
   pub remembered_refl : Remembered n f m m
   remembered_refl = record { remembering = h; count = refl; kept = kept_refl (slots_of n m) }
 
-  pub remembered_spared : (m' : List ℕ) → Spared m m' → Remembered n f m m'
+  pub remembered_spared : (m' : Memory) → Spared m m' → Remembered n f m m'
   remembered_spared m' o =
       let c = spared_changed h.sized o in
       let s = spared_slots h.sized o in
@@ -30,7 +30,7 @@ module _ {n : ℕ} {f : Formula} {m : List ℕ} (h : Remembering n f m) where
         kept = record { same = λ i l k. s i };
       }
 
-pub remembered_trans : {n : ℕ} {f : Formula} {a b c : List ℕ} → Remembered n f a b → Remembered n f b c → Remembered n f a c
+pub remembered_trans : {n : ℕ} {f : Formula} {a b c : Memory} → Remembered n f a b → Remembered n f b c → Remembered n f a c
 remembered_trans {n} {f} {a} {b} {c} x y = record {
   remembering = y.remembering;
   count = y.count ∙ x.count;
@@ -38,7 +38,7 @@ remembered_trans {n} {f} {a} {b} {c} x y = record {
 }
 
 -- a slot is held for a split of state s on p while its second side is walked, from m₂ to m₃
-module _ {n p : ℕ} {s : State} {f : Formula} {m m₁ m₂ : List ℕ} {j : ℕ} (x : Remembered n f m m₁) (h : Holding n p s m₁ m₂ j) where
+module _ {n p : ℕ} {s : State} {f : Formula} {m m₁ m₂ : Memory} {j : ℕ} (x : Remembered n f m m₁) (h : Holding n p s m₁ m₂ j) where
   -- it says nothing yet
   pub holding_remembering : Remembering n f m₂
   holding_remembering = record {
@@ -46,7 +46,7 @@ module _ {n p : ℕ} {s : State} {f : Formula} {m m₁ m₂ : List ℕ} {j : ℕ
     learned = rw h.taken.changed.count (learned_put (slots_of n m₂) j x.remembering.learned h.taken.others (λ (o : 0 < (slots_of n m₂ j).splits). absurd (omega (arith, h.taken.nothing))));
   }
 
-  module _ {m₃ : List ℕ} (y : Remembered n f m₂ m₃) where
+  module _ {m₃ : Memory} (y : Remembered n f m₂ m₃) where
     kept_side : Kept (slot_count m) (slots_of n m₂) (slots_of n m₃)
     kept_side = rw (h.taken.changed.count ∙ x.count) at y.kept
 
@@ -59,7 +59,7 @@ module _ {n p : ℕ} {s : State} {f : Formula} {m m₁ m₂ : List ℕ} {j : ℕ
     }
 
     -- and learns the splits where it has none
-    pub learning_remembered : {c : ℕ} {m₄ : List ℕ} → Learning n c m₃ m₄ j →
+    pub learning_remembered : {c : ℕ} {m₄ : Memory} → Learning n c m₃ m₄ j →
         ((slot : Slot) → slot.variable ≡ p → slot.words ≡ key n p s → slot.splits ≡ c → Known n f slot) → Remembered n f m m₄
     learning_remembered {c} {m₄} l known =
         let count : slot_count m₃ ≡ slot_count m = y.count ∙ h.taken.changed.count ∙ x.count in

@@ -1,5 +1,5 @@
 -- Slots stand apart in the array: what is written outside of one leaves it as it was.
-use mathlib.Core.Path.{◌≡◌, refl, ◌∙◌}
+use mathlib.Core.Path.{◌≡◌, refl, ap, ◌∙◌}
 use mathlib.Core.Logic.{◌⊎◌, inl, inr, ⊎_elim}
 use mathlib.Core.List.{List}
 use Prim.Native.Nat.{ℕ, ◌+◌, ◌-◌, ◌/◌, ◌%◌, ◌≤◌, ◌<◌}
@@ -10,7 +10,8 @@ use lib.ListN.{length, get_or, set, length-set}
 use lib.Seq.{get_or-set_same, get_or-set_other}
 use Rattle.general.specs.Lists.{from_same}
 use Rattle.theory.specs.Memo.{Elsewhere}
-use Rattle.memo.specs.Memory.{count_at, slots_from, memory_size, key_in, slot_at, slot_in, slots_of, slot_count, Sized, Outside, Spared, Numbered, Changed}
+use Rattle.memo.specs.declared.Memory.{Memory}
+use Rattle.memo.specs.Memory.{slot_room, key_in, slot_at, slot_in, slots_of, Sized, Outside, Spared, Numbered, Changed}
 
 -- what was written -------------------------------------------------------------------------------------------------
 
@@ -39,10 +40,6 @@ pub slot_before : (n i j : ℕ) → i < j → slot_at n i + (n + key_in) ≤ slo
 unfolding slot_at
 slot_before n i j h = omega (arith, mul-le-mul_right (n + key_in) h, suc-mul i (n + key_in))
 
-pub slot_from : (n i : ℕ) → slots_from ≤ slot_at n i
-unfolding slot_at
-slot_from n i = omega arith
-
 -- a slot whose words are the same is the same
 pub slot_same : (n b : ℕ) (m m' : List ℕ) → ((k : ℕ) → b ≤ k → k < b + (n + key_in) → get_or m' k 0 ≡ get_or m k 0) → slot_in n m' b ≡ slot_in n m b
 slot_same n b m m' h =
@@ -55,35 +52,33 @@ slot_same n b m m' h =
     )
 
 -- what is written outside of a slot
-module _ (n : ℕ) {a e : ℕ} {m m' : List ℕ} (o : Outside a e m m') where
-  pub slot_kept : (i : ℕ) → (slot_at n i + (n + key_in) ≤ a) ⊎ (e ≤ slot_at n i) → slots_of n m' i ≡ slots_of n m i
-  slot_kept i q = slot_same n (slot_at n i) m m'
-      (λ k l h. o.same k (⊎_elim (λ (z : slot_at n i + (n + key_in) ≤ a). inl (omega arith)) (λ (z : e ≤ slot_at n i). inr (omega arith)) q))
+pub slot_kept : (n : ℕ) {a e : ℕ} (m m' : Memory) → Outside a e m.slots m'.slots → (i : ℕ) → (slot_at n i + (n + key_in) ≤ a) ⊎ (e ≤ slot_at n i) → slots_of n m' i ≡ slots_of n m i
+slot_kept n {a} {e} m m' o i q = slot_same n (slot_at n i) m.slots m'.slots
+    (λ k l h. o.same k (⊎_elim (λ (z : slot_at n i + (n + key_in) ≤ a). inl (omega arith)) (λ (z : e ≤ slot_at n i). inr (omega arith)) q))
 
-  pub outside_changed : Sized n m → count_at < a → Changed n m m'
-  outside_changed s h =
-      let c : slot_count m' ≡ slot_count m = o.same count_at (inl h) in
-      record { sized = record { small = s.small; long = o.long ∙ s.long; some = omega (arith, c, s.some); room = rw c s.room }; count = c }
+-- as many slots
+pub same_changed : {n : ℕ} {m m' : Memory} → Sized n m → m'.count ≡ m.count → Changed n m m'
+same_changed s c = record { sized = record { small = s.small; some = omega (arith, c, s.some); room = rw c s.room }; count = c }
 
 -- marks and numbers
-module _ {n : ℕ} {m m' : List ℕ} (s : Sized n m) (o : Spared m m') where
+module _ {n : ℕ} {m m' : Memory} (s : Sized n m) (o : Spared m m') where
   pub spared_changed : Changed n m m'
-  spared_changed = outside_changed n o s (omega arith)
+  spared_changed = same_changed s o.count
 
   pub spared_slots : (i : ℕ) → slots_of n m' i ≡ slots_of n m i
-  spared_slots i = slot_kept n o i (inr (slot_from n i))
+  spared_slots i = ap (λ (l : List ℕ). slot_in n l (slot_at n i)) o.slots
 
 -- one slot
-pub slot_alone : (n j : ℕ) {m m' : List ℕ} → Outside (slot_at n j) (slot_at n j + (n + key_in)) m m' → (k : ℕ) → Elsewhere k j (slots_of n m) (slots_of n m')
-slot_alone n j o k = record {
-  same = λ i l d. slot_kept n o i (elim (dec_lt i j) [
+pub slot_alone : (n j : ℕ) (m m' : Memory) → Outside (slot_at n j) (slot_at n j + (n + key_in)) m.slots m'.slots → (k : ℕ) → Elsewhere k j (slots_of n m) (slots_of n m')
+slot_alone n j m m' o k = record {
+  same = λ i l d. slot_kept n m m' o i (elim (dec_lt i j) [
     | yes h ↦ inl (slot_before n i j h)
     | no h ↦ inr (slot_before n j i (omega (arith, d)))
   ]);
 }
 
 -- a number, written as its two words
-pub numbered : (i x : ℕ) (m : List ℕ) → i + 1 < memory_size → length m ≡ memory_size → Numbered i x m (set (set m i (x % 65536)) (i + 1) (x / 65536))
+pub numbered : (i x : ℕ) (m : List ℕ) → i + 1 < slot_room → length m ≡ slot_room → Numbered i x m (set (set m i (x % 65536)) (i + 1) (x / 65536))
 numbered i x m h l =
     let n : List ℕ = set m i (x % 65536) in
     let low : get_or (set n (i + 1) (x / 65536)) i 0 ≡ x % 65536 = get_or-set_other n (i + 1) i (x / 65536) 0 (λ q. omega arith) ∙ get_or-set_same m i (x % 65536) 0 (omega arith) in

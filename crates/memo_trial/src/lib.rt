@@ -6,8 +6,6 @@ ghost use Rattle.std.specs.Prelude.{◌≡◌};
 ghost use Rattle.theory.specs.Calls.{search_call};
 ghost use Rattle.memo_trial.specs.Trial.{tried};
 
-use receipt::Searching;
-
 // The receipt of Search, and how many splits were walked for it: those of its count that the memo did not know.
 #[repr(C)]
 #[derive(Clone, Copy)]
@@ -32,15 +30,13 @@ pub extern "C" fn memo_trial_search(
 ) -> MemoTrial
     ensures { (result, (plan.new, trail.new)) ≡ tried result.walked (search_call n table.now allowance plan.old trail.old) }
 {
-    let t = search::search_with(table, n, allowance, plan, trail, slots, spread as usize);
-    let answer = t.answer;
-    let r = answer.receipt();
-    let clause = r.clause;
+    let tried = search::search_with(table, n, allowance, plan, trail, slots, spread as usize);
+    let r = receipt::searching_receipt(tried.map(|tried| tried.searched));
     MemoTrial {
         number: r.number,
         count: r.count,
         place: r.place,
-        group: clause.0 as u32,
-        walked: t.walked,
+        group: r.clause.0 as u32,
+        walked: tried.map_or(0, |tried| tried.walked),
     }
 }

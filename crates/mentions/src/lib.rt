@@ -12,7 +12,7 @@ use literal::Literal;
 pub fn note(mentioned: &mut [bool; Literal::VARIABLES], size: u16)
     ensures { (t : List ℤ) (e : ℤ) → nat_abs e ≡ size → Noted mentioned.old t → Noted mentioned.new (t ++ (e ∷ [])) }
 {
-    let p = size as usize;
+    let p = usize::from(size);
     if p < Literal::VARIABLES {
         mentioned[p] = true;
     }
@@ -23,12 +23,7 @@ pub fn all_noted(mentioned: &[bool; Literal::VARIABLES], n: usize) -> bool
     requires { n ≤ max_variables }
     ensures { (t : List ℤ) → Noted mentioned.now t → result ≡ mentions_all n t }
 {
-    for p in 0..n {
-        if !mentioned[p + 1] {
-            return false;
-        }
-    }
-    true
+    mentioned[1..=n].iter().all(|&noted| noted)
 }
 
 // The same of a whole table.
@@ -37,8 +32,8 @@ pub fn mentions_all(table: &[i16], n: usize) -> bool
     ensures { result ≡ mentions_all n table.now }
 {
     let mut mentioned = [false; Literal::VARIABLES];
-    for i in 0..table.len() {
-        note(&mut mentioned, literal::size_at(table, i));
+    for &e in table {
+        note(&mut mentioned, literal::size(e));
     }
     all_noted(&mentioned, n)
 }

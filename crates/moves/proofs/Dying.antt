@@ -1,6 +1,5 @@
 -- Dead ends: of the index as of the formula, and after steps.
 use mathlib.Core.Logic.{inl, ⊎_elim}
-use mathlib.Core.List.{List}
 use Prim.Native.Nat.{ℕ}
 use native.Mathlib.Omega.{arith}
 use Rattle.theory.specs.Formula.{Formula}
@@ -14,8 +13,9 @@ use Rattle.occurrences.proofs.Formulas.{mem_formula}
 use Rattle.tally.proofs.Standing.{opens_standing, trues_standing}
 use Rattle.moves.specs.Deciding.{DeadIn}
 use Rattle.moves.specs.Stepping.{Died}
+use Rattle.occurrences.specs.declared.Index.{Index}
 
-pub dies_in : {ix : List ℕ} {s : State} → DeadIn ix s → Dies (formula_of ix) s
+pub dies_in : {ix : Index} {s : State} → DeadIn ix s → Dies (formula_of ix) s
 dies_in {ix} {s} d = record {
   clause = clause_of ix d.clause;
   member = mem_formula ix d.clause d.inside;

@@ -14,8 +14,11 @@ use Rattle.notes.specs.declared.Block.{Block}
 use Rattle.moves.specs.Sound.{Sound}
 use Rattle.moves.specs.Moving.{Moved}
 use Rattle.moves.specs.Listing.{ListsIn, Listed, SpansIn, Blocks, Carried}
+use Rattle.occurrences.specs.declared.Index.{Index}
+use Rattle.tally.specs.declared.Tally.{Tally}
+use Rattle.notes.specs.declared.Notes.{Notes}
 
-pub carried_trans : {st wk st' wk' st'' wk'' : List ℕ} → Carried st wk st' wk' → Carried st' wk' st'' wk'' → Carried st wk st'' wk''
+pub carried_trans : {st : Tally} {wk : Notes} {st' : Tally} {wk' : Notes} {st'' : Tally} {wk'' : Notes} → Carried st wk st' wk' → Carried st' wk' st'' wk'' → Carried st wk st'' wk''
 carried_trans a b = record {
   followed = followed_trans a.followed b.followed;
   grows = omega (arith, a.grows, b.grows);
@@ -24,7 +27,7 @@ carried_trans a b = record {
 }
 
 -- variables fall
-module _ {ix st wk st' wk' : List ℕ} (s : Sound ix st wk) (f : Falls (formula_of ix) (state_in st) (state_in st')) (m : Moved ix st wk st' wk') where
+module _ {ix : Index} {st : Tally} {wk : Notes} {st' : Tally} {wk' : Notes} (s : Sound ix st wk) (f : Falls (formula_of ix) (state_in st) (state_in st')) (m : Moved ix st wk st' wk') where
   pub carried_fell : Carried st wk st' wk'
   carried_fell = record {
     followed = followed_falls f s.classes.base m.went.links;
@@ -36,7 +39,7 @@ module _ {ix st wk st' wk' : List ℕ} (s : Sound ix st wk) (f : Falls (formula_
   pub blocks_fell : Blocks st wk → Blocks st' wk'
   blocks_fell k = record { at = λ i h. rw m.went.blocks (spans_kept carried_fell.followed (k.at i (omega (arith, m.went.blocks_end)))) }
 
-module _ {st wk st' wk' : List ℕ} (c : Carried st wk st' wk') where
+module _ {st : Tally} {wk : Notes} {st' : Tally} {wk' : Notes} (c : Carried st wk st' wk') where
   pub spans_carried : (b : Block) → SpansIn st b → SpansIn st' b
   spans_carried b = spans_kept c.followed
 

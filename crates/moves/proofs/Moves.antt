@@ -1,17 +1,19 @@
 -- Steps go together: nothing is noted by no step, and two steps note what each does.
 use mathlib.Core.Path.{refl, ◌∙◌}
-use mathlib.Core.List.{List}
 use Prim.Native.Nat.{ℕ}
 use native.Mathlib.Decide.{dec_lt}
 use native.Mathlib.Omega.{arith}
 use Rattle.tally.specs.Tally.{count_in}
 use Rattle.tally.specs.Counts.{one_true}
-use Rattle.notes.specs.Notes.{notes_of, Noted}
+use Rattle.notes.specs.Notes.{Noted}
 use Rattle.moves.specs.Sound.{Sound}
 use Rattle.moves.specs.Moving.{Noting, Went, Moved}
+use Rattle.occurrences.specs.declared.Index.{Index}
+use Rattle.tally.specs.declared.Tally.{Tally}
+use Rattle.notes.specs.declared.Notes.{Notes}
 
 -- no step
-module _ {ix st wk : List ℕ} where
+module _ {ix : Index} {st : Tally} {wk : Notes} where
   pub noting_refl : Noting ix st wk st wk
   noting_refl = record {
     grows = omega arith;
@@ -29,12 +31,12 @@ module _ {ix st wk : List ℕ} where
   moved_refl s = record { went = went_refl s; gathered = refl }
 
 -- two
-module _ {ix st wk st' wk' st'' wk'' : List ℕ} where
+module _ {ix : Index} {st : Tally} {wk : Notes} {st' : Tally} {wk' : Notes} {st'' : Tally} {wk'' : Notes} where
   module _ (a : Noting ix st wk st' wk') (b : Noting ix st' wk' st'' wk'') where
-    early : (g : ℕ) → Noted (notes_of wk') (notes_of wk).todo_end g → Noted (notes_of wk'') (notes_of wk).todo_end g
+    early : (g : ℕ) → Noted wk' wk.todo_end g → Noted wk'' wk.todo_end g
     early g n = (n.0, n.1, omega (arith, n.2, b.grows), b.kept n.0 n.2 ∙ n.3)
 
-    late : (g : ℕ) → Noted (notes_of wk'') (notes_of wk').todo_end g → Noted (notes_of wk'') (notes_of wk).todo_end g
+    late : (g : ℕ) → Noted wk'' wk'.todo_end g → Noted wk'' wk.todo_end g
     late g n = (n.0, omega (arith, n.1, a.grows), n.2, n.3)
 
     pub noting_trans : Noting ix st wk st'' wk''

@@ -1,13 +1,14 @@
 -- The clauses of an index, by their number and as elements of its formula.
 use mathlib.Core.Path.{◌≡◌}
-use mathlib.Core.List.{List, Memᴰ}
+use mathlib.Core.List.{Memᴰ}
 use Prim.Native.Nat.{ℕ, ◌<◌}
 use native.Mathlib.Omega.{arith}
 use Rattle.general.specs.Lists.{Before, mem_from, from_mem, before_from, from_before}
 use Rattle.theory.specs.Formula.{Clause}
+use Rattle.occurrences.specs.declared.Index.{Index}
 use Rattle.occurrences.specs.Index.{clause_count, clause_of, formula_of}
 
-module _ (ix : List ℕ) where
+module _ (ix : Index) where
   pub mem_formula : (g : ℕ) → g < clause_count ix → Memᴰ (clause_of ix g) (formula_of ix)
   mem_formula g h = mem_from (clause_of ix) 0 (clause_count ix) g (omega arith) (omega arith)
 

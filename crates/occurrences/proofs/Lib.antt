@@ -1,6 +1,7 @@
 pub mod Formulas
 pub mod Ends
 pub mod Sums
+pub mod Slices
 pub mod Placing
 pub mod Loops
 pub mod Tables

@@ -1,15 +1,15 @@
 // The pairs of a block of which a tie, or the start, says that they may meet: a look at each, once. Most are told apart by sets of clauses.
 #![tactic(auto)]
 
-ghost use Rattle.std.specs.Prelude.{◌<◌, ◌≤◌};
-ghost use Rattle.notes.specs.Notes.{near_from, far_from, max_gathered};
+ghost use Rattle.std.specs.Prelude.{◌≤◌, is_err};
 ghost use Rattle.moves.specs.Listing.{ListsIn, SpansIn};
 ghost use Rattle.meet.specs.Looking.{Lookable, LookOf};
-ghost use Rattle.pairs.specs.Seen.{Seen, Seeable, SeenBy, Seeing, SeenAll, MayMeet, FirstRow};
-ghost use Rattle.pairs.specs.Sides.{Chunkable, NextRow, FacingOf, SideOf, near_side, far_side};
+ghost use Rattle.pairs.specs.Seen.{Seeable, SeenBy, Seeing, SeenAll, MayMeet, FirstRow};
+ghost use Rattle.pairs.specs.Sides.{Chunkable, NextRow, FacingOf, SideOf, side_of, start_of};
 
 use gather::Sign;
 use literal::Literal;
+use moves::DeadEnd;
 use notes::{Block, Notes};
 use occurrences::Index;
 use tally::Tally;
@@ -33,19 +33,17 @@ struct Range {
 type Seen = [u8; Literal::CODES];
 
 // Sees the literals of clause g, if it is wide, as those of a set.
+#[tactic(auto, using(meet::proofs::Reading::reading_laws))]
 fn see_clause(index: &Index, state: &Tally, seen: &mut Seen, g: usize, set: u8)
-    requires seeable { Seeable index.now state.now g }
-    requires seen { Seen seen.old }
+    requires { Seeable index.now state.now g }
     ensures { SeenBy index.now state.now seen.old g set seen.new }
 {
-    if gather::wide(tally::count_of(state, g)) == 0 {
+    if !gather::wide(state.count_of(g)) {
         return;
     }
-    let start = occurrences::start_of(index, g);
-    let end = occurrences::end_of(index, g);
-    for i in start..end {
-        let v = tally::value_at(index, state, i);
-        seen[v as usize] = seen[v as usize] | set;
+    for &code in index.literals_of(g) {
+        let v = state.value_of_code(code);
+        seen[v as usize] |= set;
     }
 }
 
@@ -56,7 +54,7 @@ fn see_chunk(index: &Index, state: &Tally, work: &Notes, chunk: Range) -> Seen
 {
     let mut seen = [0u8; Literal::CODES];
     for i in chunk.from..chunk.to {
-        let g = notes::gathered_at(work, i) as usize;
+        let g = work.gathered_at(i) as usize;
         see_clause(index, state, &mut seen, g, 1u8 << (i % CHUNK));
     }
     seen[0] = 0;
@@ -66,26 +64,24 @@ fn see_chunk(index: &Index, state: &Tally, work: &Notes, chunk: Range) -> Seen
 
 // The set of those that may meet clause g: it has a literal whose opposite stands in them, and a second one that does, or whose opposite does. Where a place
 // has one clause alone, that one does meet it.
+#[tactic(auto, using(meet::proofs::Reading::reading_laws, crate::proofs::Touching::opposite_low))]
 fn may_meet(index: &Index, state: &Tally, seen: &Seen, g: usize) -> u8
-    requires seeable { Seeable index.now state.now g }
-    requires seen { Seen seen.now }
+    requires { Seeable index.now state.now g }
     ensures { MayMeet index.now state.now seen.now g result }
 {
-    if gather::wide(tally::count_of(state, g)) == 0 {
+    if !gather::wide(state.count_of(g)) {
         return 0;
     }
     let mut crossed: u8 = 0;
     let mut once: u8 = 0;
     let mut twice: u8 = 0;
-    let start = occurrences::start_of(index, g);
-    let end = occurrences::end_of(index, g);
-    for i in start..end {
-        let v = tally::value_at(index, state, i);
+    for &code in index.literals_of(g) {
+        let v = state.value_of_code(code);
         let across = seen[tally::opposite(v) as usize];
         let touched = seen[v as usize] | across;
-        crossed = crossed | across;
-        twice = twice | (once & touched);
-        once = once | touched;
+        crossed |= across;
+        twice |= once & touched;
+        once |= touched;
     }
     crossed & twice
 }
@@ -103,11 +99,10 @@ fn first_row(
 ) -> usize
     requires seeing { Seeing index.now state.now work.now from to }
     requires from_le_to { from ≤ to }
-    requires seen { Seen seen.now }
     ensures { FirstRow index.now state.now work.now seen.now from to result }
 {
     for i in from..to {
-        let g = notes::gathered_at(work, i) as usize;
+        let g = work.gathered_at(i) as usize;
         if may_meet(index, state, seen, g) != 0 {
             return i;
         }
@@ -127,57 +122,28 @@ fn next_row(index: &Index, state: &Tally, work: &Notes, rows: Range, chunk: Rang
     first_row(index, state, work, &seen, rows.from, rows.to)
 }
 
-// Rules 7 and 8 for each row and each clause of a chunk. True is a dead end.
-fn meet_chunk(index: &Index, state: &mut Tally, work: &mut Notes, rows: Range, chunk: Range) -> bool
+// Rules 7 and 8 for each row and each clause of a chunk.
+fn meet_chunk(
+    index: &Index,
+    state: &mut Tally,
+    work: &mut Notes,
+    rows: Range,
+    chunk: Range,
+) -> Result<(), DeadEnd>
     requires { Chunkable index.now state.old work.old rows chunk }
-    ensures { FacingOf index.now state.old work.old rows chunk state.new work.new result }
+    ensures { FacingOf index.now state.old work.old rows chunk state.new work.new (is_err result) }
 {
-    let first = chunk.from;
-    let last = chunk.to;
-    let end = rows.to;
     let mut from = rows.from;
     loop {
-        let i = next_row(
-            index,
-            state,
-            work,
-            Range { from, to: end },
-            Range {
-                from: first,
-                to: last,
-            },
-        );
-        if end <= i {
-            return false;
+        let left = Range { from, to: rows.to };
+        let i = next_row(index, state, work, left, chunk);
+        if rows.to <= i {
+            return Ok(());
         }
-        let g = notes::gathered_at(work, i) as usize;
-        if meet::meet_row(index, state, work, g, first, last) {
-            return true;
-        }
+        let g = work.gathered_at(i) as usize;
+        meet::meet_row(index, state, work, g, chunk.from, chunk.to)?;
         from = i + 1;
     }
-}
-
-// How long the chunks of so many clauses are.
-fn chunk_length(count: usize) -> usize
-    ensures { 0 < result }
-{
-    if count < CHUNK * CHUNKS {
-        return CHUNK;
-    }
-    count / CHUNKS
-}
-
-fn end_of_chunk(from: usize, end: usize, length: usize) -> usize
-    requires from_lt_end { from < end }
-    requires end_le_max_gathered { end ≤ max_gathered }
-    requires length_nonzero { 0 < length }
-    ensures { (from < result) × (result ≤ end) }
-{
-    if end - from < length {
-        return end;
-    }
-    from + length
 }
 
 // The same for each of the others, chunk by chunk.
@@ -187,96 +153,70 @@ fn meet_chunks(
     work: &mut Notes,
     rows: Range,
     others: Range,
-) -> bool
+) -> Result<(), DeadEnd>
     requires { Chunkable index.now state.old work.old rows others }
-    ensures { FacingOf index.now state.old work.old rows others state.new work.new result }
+    ensures { FacingOf index.now state.old work.old rows others state.new work.new (is_err result) }
 {
-    let first = rows.from;
-    let last = rows.to;
-    let end = others.to;
-    let length = chunk_length(end - others.from);
-    let mut from = others.from;
-    loop {
-        if end <= from {
-            return false;
-        }
-        let to = end_of_chunk(from, end, length);
-        if meet_chunk(
-            index,
-            state,
-            work,
-            Range {
-                from: first,
-                to: last,
-            },
-            Range { from, to },
-        ) {
-            return true;
-        }
-        from = to;
+    let length = CHUNK.max((others.to - others.from) / CHUNKS);
+    for from in (others.from..others.to).step_by(length) {
+        let to = (from + length).min(others.to);
+        meet_chunk(index, state, work, rows, Range { from, to })?;
     }
+    Ok(())
 }
 
 // The same where these are the fewer. One alone is the row, and read once.
-fn meet_fewer(index: &Index, state: &mut Tally, work: &mut Notes, fewer: Range, more: Range) -> bool
+fn meet_fewer(
+    index: &Index,
+    state: &mut Tally,
+    work: &mut Notes,
+    fewer: Range,
+    more: Range,
+) -> Result<(), DeadEnd>
     requires { Chunkable index.now state.old work.old fewer more }
-    ensures { FacingOf index.now state.old work.old fewer more state.new work.new result }
+    ensures { FacingOf index.now state.old work.old fewer more state.new work.new (is_err result) }
 {
     if fewer.to - fewer.from == 1 {
-        let g = notes::gathered_at(work, fewer.from) as usize;
+        let g = work.gathered_at(fewer.from) as usize;
         return meet::meet_row(index, state, work, g, more.from, more.to);
     }
     meet_chunks(index, state, work, more, fewer)
 }
 
-// Gathers the clauses of the near side of a block, and says where they end.
-fn gather_near(index: &Index, state: &Tally, work: &mut Notes, block: Block) -> usize
-    requires lookable { Lookable index.now state.now work.old }
-    requires spans_in { SpansIn state.now block }
-    ensures { SideOf (near_side state.now block) index.now state.now work.old near_from work.new result }
-{
-    if block.last == 0 {
-        return gather::gather_variable(
-            index,
-            state,
-            work,
-            block.first as usize,
-            notes::NEAR,
-            Sign::Positive,
-        );
-    }
-    gather::gather_stretch(index, state, work, block.first, block.last, notes::NEAR)
+// The sides of a block.
+#[derive(Clone, Copy)]
+enum Side {
+    Near,
+    Far,
 }
 
-fn gather_far(index: &Index, state: &Tally, work: &mut Notes, block: Block) -> usize
+// Gathers the clauses of a side of a block, and says where they end.
+fn gather_side(index: &Index, state: &Tally, work: &mut Notes, block: Block, side: Side) -> usize
     requires lookable { Lookable index.now state.now work.old }
     requires spans_in { SpansIn state.now block }
-    ensures { SideOf (far_side state.now block) index.now state.now work.old far_from work.new result }
+    ensures { SideOf (side_of side state.now block) index.now state.now work.old (start_of side) work.new result }
 {
+    let (first, last, start, sign) = match side {
+        Side::Near => (block.first, block.last, notes::NEAR, Sign::Positive),
+        Side::Far => (block.from, block.to, notes::FAR, Sign::Negative),
+    };
     if block.last == 0 {
-        return gather::gather_variable(
-            index,
-            state,
-            work,
-            block.first as usize,
-            notes::FAR,
-            Sign::Negative,
-        );
+        return gather::gather_variable(index, state, work, block.first as usize, start, sign);
     }
-    gather::gather_stretch(index, state, work, block.from, block.to, notes::FAR)
+    gather::gather_stretch(index, state, work, first, last, start)
 }
 
-// Rules 7 and 8 for the pairs of a block, which is no longer listed. True is a dead end.
-pub fn look(index: &Index, state: &mut Tally, work: &mut Notes, block: Block) -> bool
+// Rules 7 and 8 for the pairs of a block, which is no longer listed.
+pub fn look(index: &Index, state: &mut Tally, work: &mut Notes, block: Block) -> Result<(), DeadEnd>
     requires lookable { Lookable index.now state.old work.old }
     requires spans_in { SpansIn state.old block }
-    ensures { LookOf (ListsIn state.old block) index.now state.old work.old state.new work.new result }
+    ensures { LookOf (ListsIn state.old block) index.now state.old work.old state.new work.new (is_err result) }
 {
-    let near_end = gather_near(index, state, work, block);
+    let near_end = gather_side(index, state, work, block, Side::Near);
     if near_end == notes::NEAR {
-        return false;
+        return Ok(());
     }
-    let far_end = gather_far(index, state, work, block);
+    let far_end = gather_side(index, state, work, block, Side::Far);
     let near = Range {
         from: notes::NEAR,
         to: near_end,

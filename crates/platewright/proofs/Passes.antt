@@ -5,7 +5,7 @@ use Prim.Native.Nat.{ℕ}
 use lib.IntN.{ℤ}
 use Rattle.theory.specs.Table.{check}
 use Rattle.table.specs.declared.Unknown.{Unknown}
-use Rattle.table.specs.declared.Unknown.TheVariants.{Nowhere, At}
+use Rattle.std.specs.Prelude.{Option, None, Some}
 use Rattle.table.specs.declared.Pass.{Pass}
 use Rattle.table.specs.Pass.{begin, after, after_all, verdict}
 use Rattle.table.proofs.Promises.{check_parts}
@@ -14,9 +14,9 @@ use Rattle.platewright.specs.Pass.{lent_pass, pass_of, parts}
 pub kept : (p : Pass) → pass_of (lent_pass p) ≡ p
 kept p = go p.unknown refl
   where
-    go : (u : Unknown) → p.unknown ≡ u → pass_of (lent_pass p) ≡ p
-    go Nowhere e = rw e (cc)
-    go (At i k) e = rw e (cc)
+    go : (u : Option Unknown) → p.unknown ≡ u → pass_of (lent_pass p) ≡ p
+    go None e = rw e
+    go (Some w) e = rw e
 
 parts_are : (s : Pass) (ts : List (List ℤ)) → parts (lent_pass s) ts ≡ lent_pass (after_all s ts)
 unfolding parts after_all

@@ -35,7 +35,6 @@ pub struct Answer {
 fn flat(r: Receipt, n: usize, used: usize, rows: usize, more: bool) -> Answer
     ensures { result ≡ flat r n used rows more }
 {
-    let clause = r.clause;
     Answer {
         number: r.number,
         count: r.count,
@@ -43,7 +42,7 @@ fn flat(r: Receipt, n: usize, used: usize, rows: usize, more: bool) -> Answer
         n,
         used,
         rows,
-        clause: clause.0 as u32,
+        clause: r.clause.0 as u32,
         more,
     }
 }
@@ -64,8 +63,7 @@ fn counted(r: Receipt, used: usize) -> Answer
 pub extern "C" fn platewright_check(table: &[i16], n: usize) -> Answer
     ensures { result ≡ plain (checked_receipt (check n table.now)) }
 {
-    let r = table::check_table(table, n);
-    plain(r.receipt())
+    plain(receipt::checked_receipt(table::check_table(table, n)))
 }
 
 #[unsafe(no_mangle)]
@@ -77,8 +75,7 @@ pub extern "C" fn platewright_settle(
 ) -> Answer
     ensures { (result, (list.new, reasons.new)) ≡ settled (settle_call n table.now list.old reasons.old) }
 {
-    let r = settle::settle(table, n, list, reasons);
-    plain(r.receipt())
+    plain(receipt::settling_receipt(settle::settle(table, n, list, reasons)))
 }
 
 #[unsafe(no_mangle)]
@@ -91,8 +88,8 @@ pub extern "C" fn platewright_search(
 ) -> Answer
     ensures { (result, (plan.new, trail.new)) ≡ searched (search_call n table.now allowance plan.old trail.old) }
 {
-    let r = search::search(table, n, allowance, plan, trail);
-    plain(r.receipt())
+    let answer = search::search(table, n, allowance, plan, trail);
+    plain(receipt::searching_receipt(answer))
 }
 
 #[unsafe(no_mangle)]
@@ -105,24 +102,35 @@ pub extern "C" fn platewright_list(
 ) -> Answer
     ensures { (result, rows.new) ≡ listed (list_call n table.now k allowance rows.old) }
 {
-    let r = list::list(table, n, k, allowance, rows);
-    flat(r.receipt(), 0, 0, r.rows(), r.more())
+    let answer = list::list(table, n, k, allowance, rows);
+    flat(
+        receipt::listing_receipt(answer),
+        0,
+        0,
+        receipt::rows_written(answer),
+        receipt::says_more(answer),
+    )
 }
 
 #[unsafe(no_mangle)]
 pub extern "C" fn platewright_save(table: &[i16], n: usize, strip: &mut [u8]) -> Answer
     ensures { (result, strip.new) ≡ saved (save_call n table.now strip.old) }
 {
-    let r = save::save(table, n, strip);
-    plain(r.receipt())
+    plain(receipt::saving_receipt(save::save(table, n, strip)))
 }
 
 #[unsafe(no_mangle)]
 pub extern "C" fn platewright_read(strip: &[u8], table: &mut [i16]) -> Answer
     ensures { (result, table.new) ≡ read_in (read_call strip.now table.old) }
 {
-    let r = strip::read(strip, table);
-    flat(r.receipt(), r.variables(), r.used(), 0, false)
+    let answer = strip::read(strip, table);
+    flat(
+        receipt::reading_receipt(answer),
+        receipt::read_variables(answer),
+        receipt::read_length(answer),
+        0,
+        false,
+    )
 }
 
 #[unsafe(no_mangle)]
@@ -134,16 +142,22 @@ pub extern "C" fn platewright_add(
 ) -> Answer
     ensures { (result, buffer.new) ≡ added (add_call used n group.now buffer.old) }
 {
-    let r = add::add(buffer, used, n, group);
-    counted(r.receipt(), r.used())
+    let answer = add::add(buffer, used, n, group);
+    counted(
+        receipt::adding_receipt(answer),
+        receipt::used_length(answer),
+    )
 }
 
 #[unsafe(no_mangle)]
 pub extern "C" fn platewright_take_back(buffer: &mut [i16], used: usize, n: usize) -> Answer
     ensures { (result, buffer.new) ≡ taken_back (take_back_call used n buffer.old) }
 {
-    let r = take_back::take_back(buffer, used, n);
-    counted(r.receipt(), r.used())
+    let answer = take_back::take_back(buffer, used, n);
+    counted(
+        receipt::taking_back_receipt(answer),
+        receipt::used_length(answer),
+    )
 }
 
 #[unsafe(no_mangle)]
@@ -158,8 +172,8 @@ pub extern "C" fn platewright_preview(
     ensures reasons_after { (result, (list.new, reasons.new)) ≡ settled (preview_call used n group.now buffer.now list.old reasons.old) }
     ensures buffer_value { buffer.exit.now ≡ buffer.entry.now }
 {
-    let r = preview::preview(buffer, used, n, group, list, reasons);
-    plain(r.receipt())
+    let answer = preview::preview(buffer, used, n, group, list, reasons);
+    plain(receipt::settling_receipt(answer))
 }
 
 // The table check in parts -------------------------------------------------------------------------------------------
@@ -180,42 +194,34 @@ pub struct Pass {
 fn lent(p: table::Pass) -> Pass
     ensures { result ≡ lent_pass p }
 {
-    let found = p.unknown;
-    match found {
-        Unknown::Nowhere => Pass {
-            variables: p.variables,
-            place: 0,
-            clause: 0,
-            clauses: p.clauses,
-            literals: p.literals,
-            unclosed: p.unclosed,
-            unknown: false,
-        },
-        Unknown::At(place, clause) => Pass {
-            variables: p.variables,
-            place,
-            clause: clause.0,
-            clauses: p.clauses,
-            literals: p.literals,
-            unclosed: p.unclosed,
-            unknown: true,
-        },
+    let unknown = p.unknown.unwrap_or(Unknown {
+        place: 0,
+        clause: ClauseNumber(0),
+    });
+    Pass {
+        variables: p.variables,
+        place: unknown.place,
+        clause: unknown.clause.0,
+        clauses: p.clauses,
+        literals: p.literals,
+        unclosed: p.unclosed,
+        unknown: p.unknown.is_some(),
     }
 }
 
 fn given(p: Pass) -> table::Pass
     ensures { result ≡ pass_of p }
 {
-    let mut unknown = Unknown::Nowhere;
-    if p.unknown {
-        unknown = Unknown::At(p.place, ClauseNumber(p.clause));
-    }
+    let unknown = Unknown {
+        place: p.place,
+        clause: ClauseNumber(p.clause),
+    };
     table::Pass {
         variables: p.variables,
         clauses: p.clauses,
         literals: p.literals,
         unclosed: p.unclosed,
-        unknown,
+        unknown: p.unknown.then_some(unknown),
     }
 }
 
@@ -230,17 +236,14 @@ pub extern "C" fn platewright_check_begin(n: usize) -> Pass
 pub extern "C" fn platewright_check_part(pass: Pass, part: &[i16]) -> Pass
     ensures { result ≡ lent_pass (after (pass_of pass) part.now) }
 {
-    let p = given(pass);
-    lent(p.after(part))
+    lent(given(pass).after(part))
 }
 
 #[unsafe(no_mangle)]
 pub extern "C" fn platewright_check_end(pass: Pass) -> Answer
     ensures { result ≡ plain (checked_receipt (verdict (pass_of pass))) }
 {
-    let p = given(pass);
-    let r = p.verdict();
-    plain(r.receipt())
+    plain(receipt::checked_receipt(given(pass).verdict()))
 }
 
 #[unsafe(no_mangle)]
@@ -257,12 +260,6 @@ pub extern "C" fn platewright_window(
 
 // Index --------------------------------------------------------------------------------------------------------------
 
-fn shorter(a: usize, b: usize) -> usize
-    ensures { result ≡ min a b }
-{
-    if a < b { a } else { b }
-}
-
 // So many heads from the first group on, the start of each in one list and its number of entries in another.
 fn store_heads(table: &[i16], count: usize, starts: &mut [usize], entries: &mut [usize])
     requires count_in_bounds { count ≤ length starts.old }
@@ -271,14 +268,12 @@ fn store_heads(table: &[i16], count: usize, starts: &mut [usize], entries: &mut 
     ensures entries { entries.new ≡ sets entries.old 0 (map entries_of (heads_at count table.now 0)) }
 {
     let mut at = 0;
-    let mut k = 0;
-    while k < count {
-        let x = index::next_head(table, at);
-        let head = x.head;
-        starts[k] = head.start;
-        entries[k] = head.entries;
-        at = x.next;
-        k += 1;
+    // By index in both lists: of a zip of two lists that are written the proof doesn't learn what it leaves in them.
+    for k in 0..count {
+        let next = index::next_head(table, at);
+        starts[k] = next.head.start;
+        entries[k] = next.head.entries;
+        at = next.next;
     }
 }
 
@@ -292,8 +287,11 @@ pub extern "C" fn platewright_index(
 ) -> Answer
     ensures { (result, (starts.new, entries.new)) ≡ indexed (index_call n table.now (paired starts.old entries.old)) starts.old entries.old }
 {
-    let due = index::due_of(table, n, shorter(starts.len(), entries.len()));
-    store_heads(table, due.heads, starts, entries);
-    let r = due.answer;
-    plain(r.receipt())
+    match index::due_of(table, n, starts.len().min(entries.len())) {
+        Ok(count) => {
+            store_heads(table, count, starts, entries);
+            plain(receipt::indexing_receipt(Ok(())))
+        }
+        Err(refusal) => plain(refusal.receipt()),
+    }
 }

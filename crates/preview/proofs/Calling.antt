@@ -8,11 +8,10 @@ use borrow.Author.Tests.{lt-ltb, le-ltb}
 use lib.IntN.{ℤ, pos as posℤ}
 use lib.ListN.{length, take, drop, replicate, length-append, length-replicate}
 use lib.Seq.{length-take-le, take-append-le, take_at}
-use Rattle.receipt.specs.declared.Checked.{Checked}
-use Rattle.receipt.specs.declared.Checked.TheVariants.{Passed, Refused}
-use Rattle.receipt.specs.declared.Refusal.{Refusal}
-use Rattle.receipt.specs.declared.Settling.TheVariants as settling
+use Rattle.std.specs.Prelude.{Ok, Err}
 use Rattle.literal.specs.Literal.{max_table}
+use Rattle.receipt.specs.declared.Refusal.{Refusal}
+use Rattle.receipt.specs.Receipt.{Checked, pass}
 use Rattle.settle.specs.Settle.{called}
 use Rattle.theory.specs.Refusing.{unless}
 use Rattle.theory.specs.Calls.{SettleCall, settle_refused, settle_call, added, check_group, check_added, add_call, with_room, settle_after, preview_call}
@@ -31,8 +30,8 @@ module _ (u n : ℕ) (g b l : List ℤ) (m : List ℕ) where
   module _ (h : u ≤ length b) (c : List ℤ) (alike : take u c ≡ take u b) (room : u + length g + 1 ≤ length c) where
     by_checks : (k : Checked) → check_group u n g b ≡ k → settle_after (add_call u n g c).answer n (add_call u n g c).buffer l m ≡ previewed k
     unfolding add_call
-    by_checks (Refused r) e = rw (checked_alike u n g c b (omega arith) h alike, e)
-    by_checks Passed e =
+    by_checks (Err r) e = rw (checked_alike u n g c b (omega arith) h alike, e)
+    by_checks (Ok _) e =
         rw (checked_alike u n g c b (omega arith) h alike, e, le-ltb (length c) (u + length g + 1) room)
         (ap (λ t. settle_call n t l m) (added_table u g c room ∙ ap (λ t. t ++ with_zero g) alike))
 
@@ -55,11 +54,11 @@ module _ (u n : ℕ) (g b l : List ℤ) (m : List ℕ) where
   ]
 
   -- what code refuses, by its checks
-  pub call_refused : (k : Checked) (r : Refusal) → k ≡ check_added u n g b max_table → k ≡ Refused r → called (settling.Refused r) l m ≡ preview_call u n g b l m
-  call_refused k r e q = sym (preview_checked ∙ ap previewed (sym (room_enough u n g b) ∙ sym e ∙ q))
+  pub call_refused : (r : Refusal) → check_added u n g b max_table ≡ Err r → called (Err r) l m ≡ preview_call u n g b l m
+  call_refused r q = sym (preview_checked ∙ ap previewed (sym (room_enough u n g b) ∙ q))
 
 -- where the checks pass, the copy with the list stored is a table within the limits
-module _ (u n : ℕ) (g b : List ℤ) (passed : check_group u n g b ≡ Passed) where
+module _ (u n : ℕ) (g b : List ℤ) (passed : check_group u n g b ≡ pass) where
   pub used_inside : u ≤ length b
   used_inside = ((checked_exactly u n g b).0 passed).0
 

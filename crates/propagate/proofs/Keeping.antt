@@ -1,12 +1,13 @@
 -- Notes that are gone through index by index, and kept where something more is known.
 use mathlib.Core.Path.{◌≡◌, refl, sym, ◌∙◌}
 use mathlib.Core.Bool.{Bool, true, false}
-use mathlib.Core.List.{List}
-use Prim.Native.Nat.{ℕ, ◌+◌, ◌<◌, ◌≤◌}
+use mathlib.Core.List.{List, ◌++◌}
+use Prim.Native.Nat.{ℕ, ◌+◌, ◌-◌, ◌<◌, ◌≤◌}
 use native.Mathlib.Decide.{ℕ_discrete, dec_lt}
 use native.Mathlib.Omega.{arith}
-use lib.ListN.{length, get_or, set, length-set}
-use lib.Seq.{get_or-set_same, get_or-set_other}
+use lib.ListN.{length, get_or, set, take, drop, length-set, length-append, length-drop, get_or-append}
+use lib.Seq.{get_or-set_same, get_or-set_other, get_or-append_right}
+use Rattle.std.proofs.lemmas.List.{get_or-take, get_or-drop, length-take-le}
 use Rattle.propagate.specs.Partners.{Kept}
 
 module _ (P : ℕ → Type 0) where
@@ -30,8 +31,23 @@ module _ (P : ℕ → Type 0) where
       rest = λ j l. get_or-set_other after i j b false (λ e. omega arith) ∙ k.rest j (omega arith);
     }
 
-    pub keeping_all : ((j : ℕ) → i ≤ j → P j) → Kept P before after
-    keeping_all past = record {
-      room = k.room;
-      each = λ j. elim (dec_lt j i) [ yes l ↦ k.passed j l | no l ↦ λ e. (sym (k.rest j (omega arith)) ∙ e, past j (omega arith)) ];
-    }
+  -- the notes of the first n indices, of which all were gone through, with the others after them
+  pub keeping_front : (n : ℕ) (m : List Bool) {after : List Bool} {i : ℕ} → n ≤ length m → Keeping (take n m) after i → length (take n m) ≤ i → Kept (λ j. j < n → P j) m (after ++ drop n m)
+  keeping_front n m {after} {i} inside k end =
+      let l : length after ≡ n = k.room ∙ length-take-le n m inside in
+      record {
+        room = omega (arith, length-append after (drop n m), length-drop n m, l);
+        each = λ j e. elim (dec_lt j n) [
+          | yes h ↦
+              let w = k.passed j (omega (arith, length-take-le n m inside)) (sym (get_or-append after (drop n m) false j (omega (arith, l))) ∙ e) in
+              (sym (get_or-take n m j false h) ∙ w.0, λ _. w.1)
+          | no h ↦
+              let q : n + (j - length after) ≡ j = omega (arith, l) in (
+                rw q at (sym (get_or-drop n m (j - length after) false)) ∙ sym (get_or-append_right after (drop n m) j false (omega (arith, l))) ∙ e,
+                λ b. absurd (omega arith),
+              )
+        ];
+      }
+
+pub kept_where : {P Q : ℕ → Type 0} {before after : List Bool} → ((i : ℕ) → P i → Q i) → Kept P before after → Kept Q before after
+kept_where f k = record { room = k.room; each = λ i e. let w = k.each i e in (w.0, f i w.1) }

@@ -4,7 +4,7 @@ use mathlib.Core.Bool.{Bool, true, false}
 use mathlib.Core.List.Memᴰ
 use mathlib.Core.List.{List, [], ◌∷◌, map, Memᴰ}
 use mathlib.Core.Logic.{◌⊎◌, inl, inr, ⊎_elim}
-use mathlib.Core.Option.{Option, none, or_else}
+use Rattle.std.specs.Prelude.{Option, None}
 use Prim.Native.Nat.{ℕ, suc, ◌+◌, ◌<◌, ◌≤◌}
 use native.Mathlib.Decide.{ℕ_discrete, dec_lt}
 use native.Mathlib.Omega.{arith}
@@ -23,31 +23,31 @@ use Rattle.theory.specs.Propagation.{first_clause}
 use Rattle.theory.proofs.Asks.{clause_none}
 use Rattle.state.specs.State.{state_of}
 use Rattle.clause.specs.Reading.{group, clause_at}
-use Rattle.clause.proofs.Clauses.{Advances, later_clause}
+use Rattle.clause.proofs.Advancing.{Advances, later_clause}
 use Rattle.rules.specs.declared.PairRule.{PairRule}
 use Rattle.rules.specs.Rules.{Without, Side}
 use Rattle.rules.proofs.Fits.{rule_unfit, unfit_rule, turned_unfit, unfit_kept}
 use Rattle.propagate.specs.Partners.{next_of, first_partner, Alone, Noted, NoneNoted, Kept, Apart, Parted, PartedAll}
 
 -- where a rule fits none of the clauses, there is no first
-none_first : (look : Clause → Clause) (rule : Clause → Option Step) (k : ℕ) (f : List Clause) → ((c : Clause) → Memᴰ c f → rule (look c) ≡ none) →
-    first_clause rule k (map look f) ≡ none
-unfolding first_clause or_else
+none_first : (look : Clause → Clause) (rule : Clause → Option Step) (k : ℕ) (f : List Clause) → ((c : Clause) → Memᴰ c f → rule (look c) ≡ None) →
+    first_clause rule k (map look f) ≡ None
+unfolding first_clause
 none_first look rule k [] h = refl
 none_first look rule k (c ∷ f) h = rw (h c (Memᴰ.head refl)) (none_first look rule (suc k) f (λ d m. h d (Memᴰ.tail m)))
 
 module _ (t : List ℤ) (v : List ℕ) (rule : PairRule) where
-  pub alone_none : (k i : ℕ) → Alone t (state_of v) rule i → none ≡ first_partner t v rule k i
+  pub alone_none : (k i : ℕ) → Alone t (state_of v) rule i → None ≡ first_partner t v rule k i
   alone_none k i a = sym (none_first (standing (state_of v)) _ (k + 1) (clauses (drop (next_of t i) t)) a)
 
-  none_alone : (k i : ℕ) → none ≡ first_partner t v rule k i → Alone t (state_of v) rule i
+  none_alone : (k i : ℕ) → None ≡ first_partner t v rule k i → Alone t (state_of v) rule i
   none_alone k i e = λ h m. clause_none (standing (state_of v)) _ (k + 1) (clauses (drop (next_of t i) t)) (sym e) m
 
   pub noted_none : Noted t v rule (replicate max_table false)
   noted_none = record { room = length-replicate {A = Bool} max_table false; alone = λ i e. absurd (true_not_false e (get_or_throughout max_table i false)) }
 
   -- one more that has no partner
-  pub noted_more : {m : List Bool} → Noted t v rule m → (k i : ℕ) → none ≡ first_partner t v rule k i → Noted t v rule (set m i true)
+  pub noted_more : {m : List Bool} → Noted t v rule m → (k i : ℕ) → None ≡ first_partner t v rule k i → Noted t v rule (set m i true)
   noted_more {m} n k i e = record {
     room = length-set m i true ∙ n.room;
     alone = λ j q. elim (ℕ_discrete j i) [

@@ -2,59 +2,68 @@
 use mathlib.Core.Path.{◌≡◌, refl}
 use mathlib.Core.Bool.{false}
 use mathlib.Core.List.{List, [], ◌∷◌}
-use mathlib.Core.Option.{Option, none, some, or_else}
-use Prim.Native.Nat.{ℕ, suc, ◌+◌, ◌≤◌}
+use Rattle.std.specs.Prelude.{Option, None, Some}
+use Rattle.std.specs.Option.{option_or}
+use Prim.Native.Nat.{ℕ, suc, ◌≤◌}
 use native.Mathlib.Numerals.{add-one}
-use lib.IntN.{ℤ}
 use lib.ListN.{length}
+use Rattle.literal.specs.declared.ClauseNumber.{ClauseNumber}
 use Rattle.theory.specs.declared.Asked.{Asked}
 use Rattle.theory.specs.declared.Step.{Step}
 use Rattle.theory.specs.Formula.{Clause}
 use Rattle.theory.specs.Rules.{live}
-use Rattle.theory.specs.Propagation.{asked_by, first_clause, first_pair}
-use Rattle.clause.specs.Reading.{clause_at, clauses_from}
-use Rattle.clause.proofs.Clauses.{Advances, none_left}
+use Rattle.theory.specs.Propagation.{first_clause, first_pair}
+use Rattle.clause.specs.declared.Clauses.{Clauses}
+use Rattle.clause.specs.Clauses.{Passed}
+use Rattle.clause.specs.Literals.{clause_of}
+use Rattle.clause.proofs.Advancing.{Advances, passed_advances, none_left}
 use Rattle.rules.specs.declared.PairRule.{PairRule}
 use Rattle.rules.specs.Rules.{pair_rule}
 use Rattle.rules.proofs.Pairs.{pair_live}
-use Rattle.propagate.specs.Partners.{next_of, first_partner}
+use Rattle.propagate.specs.Code.{asks_ahead, pairs_ahead}
+use Rattle.propagate.specs.Partners.{first_partner}
 
-module _ (rule : Clause → Option Step) (v : List ℕ) (k : ℕ) where
-  module _ {t : List ℤ} {from next : ℕ} (a : Advances t from next) where
-    pub first_asks : {s : Step} → some s ≡ rule (clause_at t v from) → some (asked_by k s) ≡ first_clause rule k (clauses_from t v from)
-    unfolding first_clause or_else
-    first_asks e = rw (a.first v, ← e)
+-- from s on to t, past the clause at an index
+module _ {s t : Clauses} {clause : ClauseNumber} {at : ℕ} (p : Passed s clause at t) where
+  advance : Advances s.of.table.now s.at t.at
+  advance = passed_advances p
 
-    pub first_passes : none ≡ rule (clause_at t v from) → first_clause rule (k + 1) (clauses_from t v next) ≡ first_clause rule k (clauses_from t v from)
-    unfolding first_clause or_else
-    first_passes e = rw (a.first v, ← e, add-one)
+  module _ (rule : Clause → Option Step) where
+    pub ahead_asks : {x : Step} → Some x ≡ rule (clause_of s.of at) → Some (record { clause = clause; step = x }) ≡ asks_ahead rule s
+    unfolding first_clause
+    ahead_asks e = rw (p.clause_here, advance.first s.of.state.now.values, ← (rw p.here at e))
 
-  pub first_end : (t : List ℤ) (from : ℕ) → length t ≤ from → none ≡ first_clause rule k (clauses_from t v from)
-  unfolding first_clause
-  first_end t from h = rw (none_left t v from h)
+    pub ahead_passes : None ≡ rule (clause_of s.of at) → asks_ahead rule t ≡ asks_ahead rule s
+    unfolding first_clause
+    ahead_passes e = rw (p.same, p.number, advance.first s.of.state.now.values, ← (rw p.here at e), add-one)
 
-module _ (rule : PairRule) where
-  -- no pair of a clause that is not live
-  pub no_partner : (g : Clause) → live g ≡ false → (k : ℕ) (l : List Clause) → first_clause (pair_rule rule g) k l ≡ none
-  unfolding first_clause or_else
-  no_partner g e k [] = refl
-  no_partner g e k (h ∷ l) = rw (pair_live rule g h, e) (no_partner g e (suc k) l)
+  module _ (rule : PairRule) where
+    -- the first partner of the clause that was passed
+    pub partner_ahead : asks_ahead (pair_rule rule (clause_of t.of at)) t ≡ first_partner s.of.table.now s.of.state.now.values rule s.clause.0 at
+    partner_ahead = rw (p.same, p.number, p.next, p.here)
 
-  module _ (v : List ℕ) (k : ℕ) where
-    module _ {t : List ℤ} {from : ℕ} (a : Advances t from (next_of t from)) where
-      by_first : or_else (first_partner t v rule k from) (first_pair (pair_rule rule) (k + 1) (clauses_from t v (next_of t from))) ≡ first_pair (pair_rule rule) k (clauses_from t v from)
-      unfolding first_pair
-      by_first = rw (a.first v, add-one)
-
-      pub pair_asks : {s : Asked} → some s ≡ first_partner t v rule k from → some s ≡ first_pair (pair_rule rule) k (clauses_from t v from)
-      unfolding or_else
-      pair_asks e = rw (← e) at by_first
-
-      pub pair_passes : none ≡ first_partner t v rule k from →
-          first_pair (pair_rule rule) (k + 1) (clauses_from t v (next_of t from)) ≡ first_pair (pair_rule rule) k (clauses_from t v from)
-      unfolding or_else
-      pair_passes e = rw (← e) at by_first
-
-    pub pair_end : (t : List ℤ) (from : ℕ) → length t ≤ from → none ≡ first_pair (pair_rule rule) k (clauses_from t v from)
+    by_first : option_or (first_partner s.of.table.now s.of.state.now.values rule s.clause.0 at) (pairs_ahead rule t) ≡ pairs_ahead rule s
     unfolding first_pair
-    pair_end t from h = rw (none_left t v from h)
+    by_first = rw (advance.first s.of.state.now.values, p.same, p.number, p.here, ← p.next, add-one)
+
+    pub pair_asks : {x : Asked} → Some x ≡ first_partner s.of.table.now s.of.state.now.values rule s.clause.0 at → Some x ≡ pairs_ahead rule s
+    pair_asks e = rw (← e) at by_first
+
+    pub pair_passes : None ≡ first_partner s.of.table.now s.of.state.now.values rule s.clause.0 at → pairs_ahead rule t ≡ pairs_ahead rule s
+    pair_passes e = rw (← e) at by_first
+
+-- past the last clause
+module _ (s : Clauses) (h : length s.of.table.now ≤ s.at) where
+  pub ahead_end : (rule : Clause → Option Step) → None ≡ asks_ahead rule s
+  unfolding first_clause
+  ahead_end rule = rw (none_left s.of.table.now s.of.state.now.values s.at h)
+
+  pub pair_end : (rule : PairRule) → None ≡ pairs_ahead rule s
+  unfolding first_pair
+  pair_end rule = rw (none_left s.of.table.now s.of.state.now.values s.at h)
+
+-- no pair of a clause that is not live
+pub no_partner : (rule : PairRule) (g : Clause) → live g ≡ false → (k : ℕ) (l : List Clause) → first_clause (pair_rule rule g) k l ≡ None
+unfolding first_clause
+no_partner rule g e k [] = refl
+no_partner rule g e k (h ∷ l) = rw (pair_live rule g h, e) (no_partner rule g e (suc k) l)

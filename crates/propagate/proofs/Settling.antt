@@ -1,7 +1,7 @@
 -- One turn of settling: what the step that is asked says of where settling ends, and with which reasons.
 use mathlib.Core.Path.{◌≡◌, ap, sym, fun_ext}
 use mathlib.Core.List.{List}
-use mathlib.Core.Option.{none, some}
+use Rattle.std.specs.Prelude.{None, Some}
 use Prim.Native.Nat.{ℕ, ◌<◌, ◌≤◌}
 use native.Mathlib.Decide.{ℕ_discrete}
 use native.Mathlib.Omega.{arith}
@@ -34,11 +34,11 @@ pub record Turn (n : ℕ) (f : Formula) (e : Explained) (k : ℕ) (x t : Literal
 
 module _ (n : ℕ) (f : Formula) (e : Explained) where
   -- no rule fits
-  pub settle_rest : none ≡ step f e.state → rest e ≡ explain n f e
+  pub settle_rest : None ≡ step f e.state → rest e ≡ explain n f e
   unfolding propagate_by
   settle_rest q = rw (← q)
 
-  module _ (a : Asked) (asked : some a ≡ step f e.state) where
+  module _ (a : Asked) (asked : Some a ≡ step f e.state) where
     pub settle_dead : a.step ≡ DeadEnd → dead ≡ explain n f e
     unfolding propagate_by
     settle_dead q = rw (← asked, q)

@@ -1,9 +1,10 @@
 -- A command of the strip, both ways: what it says that one stands at an index, and that the bytes of one are read as it.
+use Rattle.receipt.specs.declared.Refusal.{Refusal}
 use mathlib.Core.Path.{◌≡◌, refl, ap, sym, ◌∙◌}
 use mathlib.Core.Bool.{true}
 use mathlib.Core.Logic.{◌≢◌}
 use mathlib.Core.List.{List, ◌∷◌, ◌++◌}
-use mathlib.Core.Option.{Option, none, some}
+use Rattle.std.specs.Prelude.{Option, None, Some, Ok}
 use Prim.Native.Nat.{ℕ, ◌+◌, ◌*◌, ◌/◌, ◌%◌, ◌≤◌, ◌<◌}
 use native.Mathlib.Nat.{div-add-mod', add-zero}
 use native.Mathlib.Numerals.{add-one}
@@ -21,18 +22,18 @@ use Rattle.theory.specs.declared.Mark.{Mark}
 use Rattle.theory.specs.declared.Mark.TheVariants.{Placements, Chapter, Opens, Taken, LeftOut, Closes, Ends}
 use Rattle.theory.specs.declared.Turn.{Turn}
 use Rattle.theory.specs.declared.Turn.TheVariants.{Start, Outside, Inside, After}
+use Rattle.std.specs.Prelude.{Result, Err}
 use Rattle.theory.specs.declared.Command.{Command}
-use Rattle.theory.specs.declared.Command.TheVariants as command
-use Rattle.theory.specs.Strip.{byte_of, marks, mark_of, operand_bytes, turn_of, same, operand_at, command_of, command_at}
+use Rattle.theory.specs.Strip.{byte_of, marks, mark_of, operand_bytes, turn_of, same, operand_at, command_of, command_at, commands}
 use Rattle.theory.specs.Encoding.{command_bytes, Bytes}
 
 -- marks and turns ---------------------------------------------------------------------------------------------------
 
-byte_of_lem : (b : ℕ) (m : Mark) → mark_of b ≡ some m → b ≡ byte_of m
+byte_of_lem : (b : ℕ) (m : Mark) → mark_of b ≡ Some m → b ≡ byte_of m
 unfolding mark_of
 byte_of_lem b m e = eqb-true b (byte_of m) (find_some (λ k. eqb b (byte_of k)) marks m e).1
 
-mark_of_lem : (m : Mark) → mark_of (byte_of m) ≡ some m
+mark_of_lem : (m : Mark) → mark_of (byte_of m) ≡ Some m
 unfolding mark_of find
 mark_of_lem Placements = refl
 mark_of_lem Chapter = refl
@@ -80,17 +81,17 @@ module _ (s : List ℕ) (i : ℕ) where
     pub further : next ≡ i + 1 + operand_bytes m
     pub long : next ≤ length s
 
-  abbrev pub Says : Turn → Command → Type 0
-  Says t (command.Command m v next) = Stands t m v next
-  Says t (command.Refused f) = (f.place ≡ i) × (20 ≤ number_of f.fault) × (number_of f.fault ≤ 22)
+  abbrev pub Says : Turn → Result Command Refusal → Type 0
+  Says t (Ok found) = Stands t found.mark found.operand found.next
+  Says t (Err f) = (f.place ≡ i) × (20 ≤ number_of f.fault) × (number_of f.fault ≤ 22)
 
   pub command_says : (t : Turn) → Says t (command_at s i t)
   unfolding command_at
   command_says t = go (mark_of (get_or s i 0)) refl
     where
       go : (o : Option Mark) → mark_of (get_or s i 0) ≡ o → Says t (command_of s i t o)
-      go none q = (refl, omega arith, omega arith)
-      go (some m) q = cond_ind (Says t) _ _ (same t (turn_of m))
+      go None q = (refl, omega arith, omega arith)
+      go (Some m) q = cond_ind (Says t) _ _ (same t (turn_of m))
           (λ a. cond_ind (Says t) _ _ (leb (i + 1 + operand_bytes m) (length s))
           (λ b. record {
             turn = same_turn t (turn_of m) a;
@@ -102,10 +103,10 @@ module _ (s : List ℕ) (i : ℕ) where
           (λ b. (refl, omega arith, omega arith)))
           (λ a. (refl, omega arith, omega arith))
 
-  pub command_stands : {t : Turn} {m : Mark} {v next : ℕ} → command.Command m v next ≡ command_at s i t → Stands t m v next
+  pub command_stands : {t : Turn} {m : Mark} {v next : ℕ} → commands m v next ≡ command_at s i t → Stands t m v next
   command_stands {t = t} e = rw (← e) at (command_says t)
 
-  pub stands_command : {t : Turn} {m : Mark} {v next : ℕ} → Stands t m v next → command_at s i t ≡ command.Command m v next
+  pub stands_command : {t : Turn} {m : Mark} {v next : ℕ} → Stands t m v next → command_at s i t ≡ commands m v next
   unfolding command_at
   stands_command {m = m} c =
       rw (c.turn, c.byte, mark_of_lem m, same_refl (turn_of m), le-leb (i + 1 + operand_bytes m) (length s) (omega (arith, c.further, c.long)), c.operand, c.further)
@@ -166,7 +167,7 @@ module _ (s : List ℕ) (i : ℕ) where
         let q : i + 1 + operand_bytes m ≡ i + length (command_bytes m v) = omega (arith, length_command m v) in
         rw (q, ← drop-drop (length (command_bytes m v)) i s, e) (drop-append_seam (command_bytes m v) rest)
 
-    pub bytes_command : command_at s i (turn_of m) ≡ command.Command m (operand_at s i (operand_bytes m)) (i + 1 + operand_bytes m)
+    pub bytes_command : command_at s i (turn_of m) ≡ commands m (operand_at s i (operand_bytes m)) (i + 1 + operand_bytes m)
     unfolding command_at
     bytes_command =
         let b : get_or s i 0 ≡ byte_of m = rw add-zero at (byte_at _ e 0) in

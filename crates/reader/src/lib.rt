@@ -1,11 +1,9 @@
 // "A reader stands on the strip it was given, at one place; a command gives its mark and operand, or a refusal with its place."
 #![tactic(auto)]
 
-ghost use Rattle.std.proofs.Math.Option.{some};
 ghost use Rattle.std.specs.Prelude.{◌≡◌, ◌+◌, ◌*◌, ◌<◌, length};
-ghost use Rattle.theory.specs.Strip.{turn_of, same, operand_at, command_of, command_at};
+ghost use Rattle.theory.specs.Strip.{turn_of, operand_at, command_of, command_at};
 
-use mark::Found;
 use receipt::{Fault, Refusal};
 use theory::{Command, Mark, Turn};
 
@@ -23,37 +21,6 @@ fn turn_of(mark: Mark) -> Turn
         Mark::LeftOut => Turn::Inside,
         Mark::Closes => Turn::Inside,
         Mark::Ends => Turn::Outside,
-    }
-}
-
-pub fn same(turn: Turn, other: Turn) -> bool
-    ensures { result ≡ same turn other }
-{
-    match turn {
-        Turn::Start => match other {
-            Turn::Start => true,
-            Turn::Outside => false,
-            Turn::Inside => false,
-            Turn::After => false,
-        },
-        Turn::Outside => match other {
-            Turn::Start => false,
-            Turn::Outside => true,
-            Turn::Inside => false,
-            Turn::After => false,
-        },
-        Turn::Inside => match other {
-            Turn::Start => false,
-            Turn::Outside => false,
-            Turn::Inside => true,
-            Turn::After => false,
-        },
-        Turn::After => match other {
-            Turn::Start => false,
-            Turn::Outside => false,
-            Turn::Inside => false,
-            Turn::After => true,
-        },
     }
 }
 
@@ -78,73 +45,76 @@ fn operand_at(strip: &[u8], at: usize, size: usize) -> u16
 }
 
 // A mark at an index of the strip: "22, 21".
-fn command_of(strip: &[u8], at: usize, turn: Turn, mark: Mark) -> Command
+fn command_of(strip: &[u8], at: usize, turn: Turn, mark: Mark) -> Result<Command, Refusal>
     requires { at < length strip.now }
-    ensures { result ≡ command_of strip.now at turn (some mark) }
+    ensures { result ≡ command_of strip.now at turn (Some mark) }
 {
-    let in_turn = same(turn, turn_of(mark));
+    if turn != turn_of(mark) {
+        return Err(Refusal::new(Fault::OutOfTurn, at));
+    }
     let size = mark::operand_bytes(mark);
-    let whole = size < strip.len() - at;
-    if !in_turn {
-        return Command::Refused(Refusal::new(Fault::OutOfTurn, at));
+    if strip.len() - at <= size {
+        return Err(Refusal::new(Fault::CutStrip, at));
     }
-    if !whole {
-        return Command::Refused(Refusal::new(Fault::CutStrip, at));
-    }
-    Command::Command(mark, operand_at(strip, at, size), at + 1 + size)
+    Ok(Command {
+        mark,
+        operand: operand_at(strip, at, size),
+        next: at + 1 + size,
+    })
 }
 
 // The command at an index of the strip: 20, where its byte is no mark.
 #[tactic(auto, unfolding(theory::specs::Strip::command_at))]
-fn command_at(strip: &[u8], at: usize, turn: Turn) -> Command
+fn command_at(strip: &[u8], at: usize, turn: Turn) -> Result<Command, Refusal>
     requires { at < length strip.now }
     ensures { result ≡ command_at strip.now at turn }
 {
-    let found = mark::of_byte(strip[at]);
-    match found {
-        Found::Mark(mark) => command_of(strip, at, turn, mark),
-        Found::Nothing => Command::Refused(Refusal::new(Fault::UnknownMark, at)),
+    match mark::of_byte(strip[at]) {
+        Some(mark) => command_of(strip, at, turn, mark),
+        None => Err(Refusal::new(Fault::UnknownMark, at)),
     }
 }
 
 // The reader ----------------------------------------------------------------------------------------------------------
 
-// A struct that holds a reference. The four functions below are thin: the work is `command_at`'s, on the slice and the place.
-#[derive(Drop)]
+// The methods are thin: the work is `command_at`'s, on the slice and the place.
+#[derive(Clone, Copy)]
 pub struct Reader<'a> {
     pub strip: &'a [u8],
     pub at: usize,
 }
 
-// A reader at the first byte.
-pub fn new<'a>(strip: &'a [u8]) -> Reader<'a>
-    ensures { (result.strip ≡ strip.entry) × (result.at ≡ 0) }
-{
-    Reader { strip, at: 0 }
-}
+impl<'a> Reader<'a> {
+    // A reader at the first byte.
+    pub fn new(strip: &'a [u8]) -> Reader<'a>
+        ensures { (result.strip ≡ strip.entry) × (result.at ≡ 0) }
+    {
+        Reader { strip, at: 0 }
+    }
 
-// The reader at another place.
-pub fn moved<'a>(reader: Reader<'a>, next: usize) -> Reader<'a>
-    ensures { (result.strip ≡ reader.entry.strip) × (result.at ≡ next) }
-{
-    Reader {
-        strip: reader.strip,
-        at: next,
+    // The reader at another place.
+    pub fn moved(self, next: usize) -> Reader<'a>
+        ensures { (result.strip ≡ self.entry.strip) × (result.at ≡ next) }
+    {
+        Reader {
+            strip: self.strip,
+            at: next,
+        }
+    }
+
+    // The command at its place.
+    pub fn command(self, turn: Turn) -> Result<Command, Refusal>
+        requires { self.at < length self.strip.now }
+        ensures { result ≡ command_at self.entry.strip.now self.entry.at turn }
+    {
+        command_at(self.strip, self.at, turn)
     }
 }
 
-// The command at its place.
-pub fn command<'a>(reader: Reader<'a>, turn: Turn) -> Command
-    requires { reader.at < length reader.strip.now }
-    ensures { result ≡ command_at reader.entry.strip.now reader.entry.at turn }
-{
-    command_at(reader.strip, reader.at, turn)
-}
-
 // The same for a caller that has the slice and the place, and holds no reader.
-pub fn command_from(strip: &[u8], at: usize, turn: Turn) -> Command
+pub fn command_from(strip: &[u8], at: usize, turn: Turn) -> Result<Command, Refusal>
     requires { at < length strip.now }
     ensures { result ≡ command_at strip.now at turn }
 {
-    command(moved(new(strip), at), turn)
+    Reader::new(strip).moved(at).command(turn)
 }

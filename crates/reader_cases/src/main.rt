@@ -3,7 +3,7 @@
 #![tactic(auto)]
 
 use receipt::{Fault, Refusal};
-use theory::{Command, Mark, Turn};
+use theory::{Mark, Turn};
 
 fn letter(mark: Mark) {
     match mark {
@@ -45,7 +45,7 @@ fn turn_after(turn: Turn, mark: Mark) -> Turn {
 }
 
 fn ended(turn: Turn, length: usize) {
-    if reader::same(turn, Turn::After) {
+    if turn == Turn::After {
         show::text(b"end\n\n");
     } else {
         refused(Refusal::new(Fault::CutStrip, length));
@@ -57,14 +57,14 @@ fn walk(strip: &[u8]) {
     let mut at: usize = 0;
     while at < strip.len() {
         match reader::command_from(strip, at, turn) {
-            Command::Refused(why) => {
+            Err(why) => {
                 refused(why);
                 return;
             }
-            Command::Command(mark, operand, next) => {
-                found(mark, operand, at);
-                turn = turn_after(turn, mark);
-                at = next;
+            Ok(command) => {
+                found(command.mark, command.operand, at);
+                turn = turn_after(turn, command.mark);
+                at = command.next;
             }
         }
     }

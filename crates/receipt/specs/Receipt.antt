@@ -1,11 +1,13 @@
 -- The numbers on the receipt (documents 01 and 02), each with its trade word.
-use Rattle.std.specs.Prelude.{ℕ}
+use Rattle.std.specs.Prelude.{ℕ, Result, Ok}
 use Rattle.literal.specs.declared.ClauseNumber.{ClauseNumber}
 use Rattle.literal.specs.Literal.{clause_number}
 use Rattle.receipt.specs.declared.Fault.{Fault}
 use Rattle.receipt.specs.declared.Fault.TheVariants.{TooManyVariables, TooManyClauses, TooManyLiterals, OpenClause, UnknownVariable, PlanShort, TrailShort, HeadsShort, ReceiptShort, UsedLengthWrong, StateShort, UnknownMark, CutStrip, OutOfTurn, TableShort, StripTooLong, StripShort, UnmentionedVariable, ReasonsShort, RowsShort, NoClause}
 use Rattle.receipt.specs.declared.Outcome.{Outcome}
 use Rattle.receipt.specs.declared.Outcome.TheVariants.{LaidOut, NoLayout, Stopped}
+use Rattle.receipt.specs.declared.Settling.{Settling}
+use Rattle.receipt.specs.declared.Settling.TheVariants as settling
 use Rattle.receipt.specs.declared.Refusal.{Refusal}
 use Rattle.receipt.specs.declared.Receipt.{Receipt}
 
@@ -83,6 +85,11 @@ outcome_number LaidOut = 0
 outcome_number NoLayout = 10
 outcome_number Stopped = 11
 
+-- how settling ends: settled, no layout
+abbrev pub settling_number : Settling → ℕ
+settling_number settling.Settled = 13
+settling_number settling.NoLayout = 10
+
 -- done: "Success is 18, done, here and in each later operation without an outcome of its own" (document 02)
 abbrev pub done : ℕ
 done = 18
@@ -94,6 +101,13 @@ unknown_variable k = UnknownVariable (clause_number k)
 -- the one way to make a refusal
 abbrev pub refusal : Fault → ℕ → Refusal
 refusal why at = record { fault = why; place = at }
+
+-- a check, or a call that answers nothing else: passed, or the refusal
+abbrev pub Checked : Type 0
+Checked = Result (Unit {0}) Refusal
+
+abbrev pub pass : Checked
+pass = Ok tt
 
 -- a receipt that names no group
 abbrev pub receipt : ℕ → ℕ → ℕ → Receipt

@@ -1,8 +1,8 @@
-// What an operation answers, by cases, and what each answer puts on the receipt.
+// What an operation answers, a Result whose error is the refusal, and what each answer puts on the receipt.
 #![tactic(auto)]
 
 ghost use Rattle.std.specs.Prelude.{◌≡◌};
-ghost use Rattle.receipt.specs.Receipt.{number_of, named_clause, outcome_number, refusal, receipt, refused_receipt};
+ghost use Rattle.receipt.specs.Receipt.{number_of, named_clause, outcome_number, settling_number, refusal, receipt, refused_receipt};
 ghost use Rattle.receipt.specs.Answers.{checked_receipt, settling_receipt, searching_receipt, indexing_receipt, adding_receipt, added_length, taking_back_receipt, length_left, reading_receipt, read_variables, read_length, saving_receipt, listing_receipt, rows_written, says_more};
 
 use literal::ClauseNumber;
@@ -39,8 +39,7 @@ impl Fault {
     pub fn number(self) -> u32
         ensures { result ≡ number_of self }
     {
-        let why = self;
-        match why {
+        match self {
             Fault::TooManyVariables => 1,
             Fault::TooManyClauses => 2,
             Fault::TooManyLiterals => 3,
@@ -69,11 +68,9 @@ impl Fault {
     pub fn clause(self) -> ClauseNumber
         ensures { result ≡ named_clause self }
     {
-        let why = self;
-        if let Fault::UnknownVariable(clause) = why {
-            clause
-        } else {
-            ClauseNumber(0)
+        match self {
+            Fault::UnknownVariable(clause) => clause,
+            _ => ClauseNumber(0),
         }
     }
 }
@@ -116,12 +113,11 @@ impl Refusal {
     pub fn receipt(self) -> Receipt
         ensures { result ≡ refused_receipt self }
     {
-        let fault = self.fault;
         Receipt {
-            number: fault.number(),
+            number: self.fault.number(),
             place: self.place,
             count: 0,
-            clause: fault.clause(),
+            clause: self.fault.clause(),
         }
     }
 }
@@ -129,27 +125,8 @@ impl Refusal {
 // Document 02's "18, done": the number of each of its operations that has no outcome of its own.
 const DONE: u32 = 18;
 
-// The table check, which the operations on a table begin with: no fault, or the first one.
-#[derive(Clone, Copy)]
-pub enum Checked {
-    Passed,
-    Refused(Refusal),
-}
-
-impl Checked {
-    pub fn receipt(self) -> Receipt
-        ensures { result ≡ checked_receipt self }
-    {
-        let answer = self;
-        match answer {
-            Checked::Passed => plain(DONE, 0, 0),
-            Checked::Refused(refusal) => refusal.receipt(),
-        }
-    }
-}
-
 // How a search ends that is not refused.
-#[derive(Clone, Copy)]
+#[derive(Clone, Copy, PartialEq, Eq)]
 pub enum Outcome {
     LaidOut,
     NoLayout,
@@ -160,8 +137,7 @@ impl Outcome {
     pub fn number(self) -> u32
         ensures { result ≡ outcome_number self }
     {
-        let outcome = self;
-        match outcome {
+        match self {
             Outcome::LaidOut => 0,
             Outcome::NoLayout => 10,
             Outcome::Stopped => 11,
@@ -169,61 +145,62 @@ impl Outcome {
     }
 }
 
-#[derive(Clone, Copy)]
+// What each operation answers ----------------------------------------------------------------------------------------
+
+// Check: nothing beside the number, "18, done".
+pub fn checked_receipt(answer: Result<(), Refusal>) -> Receipt
+    ensures { result ≡ checked_receipt answer }
+{
+    answer.map_or_else(|refusal| refusal.receipt(), |()| plain(DONE, 0, 0))
+}
+
+// How settling ends that is not refused.
+#[derive(Clone, Copy, PartialEq, Eq)]
 pub enum Settling {
     Settled,
     NoLayout,
-    Refused(Refusal),
 }
 
 impl Settling {
-    pub fn receipt(self) -> Receipt
-        ensures { result ≡ settling_receipt self }
+    pub fn number(self) -> u32
+        ensures { result ≡ settling_number self }
     {
-        let answer = self;
-        match answer {
-            Settling::Settled => plain(13, 0, 0),
-            Settling::NoLayout => plain(10, 0, 0),
-            Settling::Refused(refusal) => refusal.receipt(),
+        match self {
+            Settling::Settled => 13,
+            Settling::NoLayout => 10,
         }
     }
+}
+
+pub fn settling_receipt(answer: Result<Settling, Refusal>) -> Receipt
+    ensures { result ≡ settling_receipt answer }
+{
+    answer.map_or_else(
+        |refusal| refusal.receipt(),
+        |settling| plain(settling.number(), 0, 0),
+    )
 }
 
 // Search: an outcome with its count of splits.
 #[derive(Clone, Copy)]
-pub enum Searching {
-    Ended { outcome: Outcome, count: u32 },
-    Refused(Refusal),
+pub struct Searched {
+    pub outcome: Outcome,
+    pub count: u32,
 }
 
-impl Searching {
-    pub fn receipt(self) -> Receipt
-        ensures { result ≡ searching_receipt self }
-    {
-        let answer = self;
-        match answer {
-            Searching::Ended { outcome, count } => plain(outcome.number(), 0, count),
-            Searching::Refused(refusal) => refusal.receipt(),
-        }
-    }
+pub fn searching_receipt(answer: Result<Searched, Refusal>) -> Receipt
+    ensures { result ≡ searching_receipt answer }
+{
+    answer.map_or_else(
+        |refusal| refusal.receipt(),
+        |searched| plain(searched.outcome.number(), 0, searched.count),
+    )
 }
 
-#[derive(Clone, Copy)]
-pub enum Indexing {
-    Indexed,
-    Refused(Refusal),
-}
-
-impl Indexing {
-    pub fn receipt(self) -> Receipt
-        ensures { result ≡ indexing_receipt self }
-    {
-        let answer = self;
-        match answer {
-            Indexing::Indexed => plain(17, 0, 0),
-            Indexing::Refused(refusal) => refusal.receipt(),
-        }
-    }
+pub fn indexing_receipt(answer: Result<(), Refusal>) -> Receipt
+    ensures { result ≡ indexing_receipt answer }
+{
+    answer.map_or_else(|refusal| refusal.receipt(), |()| plain(17, 0, 0))
 }
 
 // What Index stores of a group: the index of its first element, of its 0 if it is empty, and its number of entries.
@@ -234,182 +211,87 @@ pub struct Head {
 }
 
 // Add: the new used length.
-#[derive(Clone, Copy)]
-pub enum Adding {
-    Added(usize),
-    Refused(Refusal),
-}
-
-impl Adding {
-    pub fn receipt(self) -> Receipt
-        ensures { result ≡ adding_receipt self }
-    {
-        let answer = self;
-        match answer {
-            Adding::Added(_) => plain(15, 0, 0),
-            Adding::Refused(refusal) => refusal.receipt(),
-        }
-    }
-
-    pub fn used(self) -> usize
-        ensures { result ≡ added_length self }
-    {
-        let answer = self;
-        match answer {
-            Adding::Added(used) => used,
-            Adding::Refused(_) => 0,
-        }
-    }
+pub fn adding_receipt(answer: Result<usize, Refusal>) -> Receipt
+    ensures { result ≡ adding_receipt answer }
+{
+    answer.map_or_else(|refusal| refusal.receipt(), |_| plain(15, 0, 0))
 }
 
 // Taking back: the new used length.
+pub fn taking_back_receipt(answer: Result<usize, Refusal>) -> Receipt
+    ensures { result ≡ taking_back_receipt answer }
+{
+    answer.map_or_else(|refusal| refusal.receipt(), |_| plain(DONE, 0, 0))
+}
+
+// Of Add and of taking back: "0 on refusal", and where the only group is taken back. The number tells which.
+pub fn used_length(answer: Result<usize, Refusal>) -> usize
+    ensures added { result ≡ added_length answer }
+    ensures left { result ≡ length_left answer }
+{
+    answer.unwrap_or(0)
+}
+
+// Read: the number of placements and the used length, "both 0 on refusal".
 #[derive(Clone, Copy)]
-pub enum TakingBack {
-    TakenBack(usize),
-    Refused(Refusal),
+pub struct Read {
+    pub variables: usize,
+    pub used: usize,
 }
 
-impl TakingBack {
-    pub fn receipt(self) -> Receipt
-        ensures { result ≡ taking_back_receipt self }
-    {
-        let answer = self;
-        match answer {
-            TakingBack::TakenBack(_) => plain(DONE, 0, 0),
-            TakingBack::Refused(refusal) => refusal.receipt(),
-        }
-    }
-
-    // "0 on refusal", and where the only group is taken back: the number tells which.
-    pub fn used(self) -> usize
-        ensures { result ≡ length_left self }
-    {
-        let answer = self;
-        match answer {
-            TakingBack::TakenBack(used) => used,
-            TakingBack::Refused(_) => 0,
-        }
-    }
+pub fn reading_receipt(answer: Result<Read, Refusal>) -> Receipt
+    ensures { result ≡ reading_receipt answer }
+{
+    answer.map_or_else(|refusal| refusal.receipt(), |_| plain(16, 0, 0))
 }
 
-// Read: the number of placements and the used length.
-#[derive(Clone, Copy)]
-pub enum Reading {
-    Read { variables: usize, used: usize },
-    Refused(Refusal),
+pub fn read_variables(answer: Result<Read, Refusal>) -> usize
+    ensures { result ≡ read_variables answer }
+{
+    answer.map_or(0, |read| read.variables)
 }
 
-impl Reading {
-    pub fn receipt(self) -> Receipt
-        ensures { result ≡ reading_receipt self }
-    {
-        let answer = self;
-        match answer {
-            Reading::Read {
-                variables: _,
-                used: _,
-            } => plain(16, 0, 0),
-            Reading::Refused(refusal) => refusal.receipt(),
-        }
-    }
-
-    pub fn variables(self) -> usize
-        ensures { result ≡ read_variables self }
-    {
-        let answer = self;
-        match answer {
-            Reading::Read { variables, used: _ } => variables,
-            Reading::Refused(_) => 0,
-        }
-    }
-
-    pub fn used(self) -> usize
-        ensures { result ≡ read_length self }
-    {
-        let answer = self;
-        match answer {
-            Reading::Read { variables: _, used } => used,
-            Reading::Refused(_) => 0,
-        }
-    }
+pub fn read_length(answer: Result<Read, Refusal>) -> usize
+    ensures { result ≡ read_length answer }
+{
+    answer.map_or(0, |read| read.used)
 }
 
 // Save: the number of bytes written.
-#[derive(Clone, Copy)]
-pub enum Saving {
-    Saved(usize),
-    Refused(Refusal),
-}
-
-impl Saving {
-    pub fn receipt(self) -> Receipt
-        ensures { result ≡ saving_receipt self }
-    {
-        let answer = self;
-        match answer {
-            Saving::Saved(length) => plain(DONE, length, 0),
-            Saving::Refused(refusal) => refusal.receipt(),
-        }
-    }
+pub fn saving_receipt(answer: Result<usize, Refusal>) -> Receipt
+    ensures { result ≡ saving_receipt answer }
+{
+    answer.map_or_else(|refusal| refusal.receipt(), |length| plain(DONE, length, 0))
 }
 
 // List: an outcome with the rows written, whether there is a layout more than those, and its count of splits.
 #[derive(Clone, Copy)]
-pub enum Listing {
-    Ended {
-        outcome: Outcome,
-        rows: usize,
-        more: bool,
-        count: u32,
-    },
-    Refused(Refusal),
+pub struct Listed {
+    pub outcome: Outcome,
+    pub rows: usize,
+    pub more: bool,
+    pub count: u32,
 }
 
-impl Listing {
-    pub fn receipt(self) -> Receipt
-        ensures { result ≡ listing_receipt self }
-    {
-        let answer = self;
-        match answer {
-            Listing::Ended {
-                outcome,
-                rows,
-                more: _,
-                count,
-            } => plain(outcome.number(), rows, count),
-            Listing::Refused(refusal) => refusal.receipt(),
-        }
-    }
+pub fn listing_receipt(answer: Result<Listed, Refusal>) -> Receipt
+    ensures { result ≡ listing_receipt answer }
+{
+    answer.map_or_else(
+        |refusal| refusal.receipt(),
+        |listed| plain(listed.outcome.number(), listed.rows, listed.count),
+    )
+}
 
-    // "place is the rows written": none on refusal, where the place is another.
-    pub fn rows(self) -> usize
-        ensures { result ≡ rows_written self }
-    {
-        let answer = self;
-        match answer {
-            Listing::Ended {
-                outcome: _,
-                rows,
-                more: _,
-                count: _,
-            } => rows,
-            Listing::Refused(_) => 0,
-        }
-    }
+// "place is the rows written": none on refusal, where the place is another.
+pub fn rows_written(answer: Result<Listed, Refusal>) -> usize
+    ensures { result ≡ rows_written answer }
+{
+    answer.map_or(0, |listed| listed.rows)
+}
 
-    // "the answer says "more" when a further one exists and otherwise not".
-    pub fn more(self) -> bool
-        ensures { result ≡ says_more self }
-    {
-        let answer = self;
-        match answer {
-            Listing::Ended {
-                outcome: _,
-                rows: _,
-                more,
-                count: _,
-            } => more,
-            Listing::Refused(_) => false,
-        }
-    }
+// "the answer says "more" when a further one exists and otherwise not".
+pub fn says_more(answer: Result<Listed, Refusal>) -> bool
+    ensures { result ≡ says_more answer }
+{
+    answer.is_ok_and(|listed| listed.more)
 }

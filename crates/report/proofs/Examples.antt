@@ -1,7 +1,8 @@
 -- Document 01's printed example, and a text of each other kind.
 use mathlib.Core.Path.{◌≡◌, refl}
 use mathlib.Core.List.{List, [], ◌∷◌, map}
-use mathlib.Core.Option.{bind, or_else}
+use Rattle.std.specs.Prelude.{option_and_then}
+use Rattle.std.specs.Option.{option_or}
 use Prim.Native.Nat.{ℕ}
 use Rattle.general.specs.Lists.{from}
 use Rattle.general.specs.Search.{find, first_place, any}
@@ -37,7 +38,7 @@ rows =
     ∷ []
 
 pub examples_hold : map (λ (r : Row). report_of r.strip) rows ≡ map (λ (r : Row). r.text) rows
-unfolding report_of ended_text solve_call solve_variables search_call check zeros nonzeros ends_open first_place decimal digits_within spaced read_by read_from command_at mark_of obey mentions_all search tree_of decide tree limited propagate ask first_clause first_pair standing occurs find any bind or_else clauses live_variables lowest branch_variable choice_of from
+unfolding report_of ended_text solve_call solve_variables search_call check zeros nonzeros ends_open first_place decimal digits_within spaced read_by read_from command_at mark_of obey mentions_all search tree_of decide tree limited propagate ask first_clause first_pair standing occurs find any clauses live_variables lowest branch_variable choice_of from
 examples_hold = refl
 
 pub stopped_holds : ended_text Stopped allowance [] [] ≡ codes "stopped\ncount 1000000\n"

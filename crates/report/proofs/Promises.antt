@@ -1,4 +1,5 @@
 -- What the layout program prints: the text of a call of Search on what was read, or one line for a refused strip. With 5 it ends with the group that is open at the place (A2); every other one keeps its two numbers, 26 too (A3).
+use Rattle.receipt.specs.Answers.{reading}
 use mathlib.Core.Path.{◌≡◌, refl, ap}
 use mathlib.Core.Logic.{◌≢◌}
 use mathlib.Core.List.{List, [], ◌∷◌}
@@ -8,7 +9,7 @@ use borrow.Author.Tests.{ne_eqb}
 use lib.IntN.{ℤ, pos}
 use lib.ListN.{length, take, replicate, length-replicate}
 use Rattle.literal.specs.Literal.{max_variables, max_table}
-use Rattle.receipt.specs.declared.Reading.TheVariants.{Read, Refused}
+use Rattle.std.specs.Prelude.{Err}
 use Rattle.receipt.specs.declared.Refusal.{Refusal}
 use Rattle.receipt.specs.declared.Fault.TheVariants.{UnmentionedVariable}
 use Rattle.receipt.specs.Receipt.{number_of, named_clause, refusal}
@@ -26,7 +27,7 @@ use Rattle.search.specs.Call as search
 use Rattle.text.specs.Text.{codes, decimal, line, refused_text}
 use Rattle.report.specs.Report.{allowance, search_text, report_of}
 
-module _ (s : List ℕ) (f : Refusal) (e : (read_strip s max_table).reading ≡ Refused f) where
+module _ (s : List ℕ) (f : Refusal) (e : (read_strip s max_table).reading ≡ Err f) where
   -- a refused strip prints one line
   report_refused : report_of s ≡ refused_text f
   unfolding report_of solve_call
@@ -63,7 +64,7 @@ module _ {s : List ℕ} {n : ℕ} {l : List Item} (bytes : Bytes s) (within : St
   abbrev found : SearchCall
   found = search_call n (table_of (groups l)) allowance plan trail
 
-  reads : read_strip s max_table ≡ record { reading = Read n (length (table_of (groups l))); table = table_of (groups l) }
+  reads : read_strip s max_table ≡ record { reading = reading n (length (table_of (groups l))); table = table_of (groups l) }
   reads = within_read bytes within
 
   -- what is printed is the text of a call of Search on the table of the strip's groups: the outcome, the count, and of a layout the first n of the plan and of the trail

@@ -10,9 +10,10 @@ use lib.Seq.{length-take-le}
 use Rattle.general.specs.Appending.{Appended, appended_length}
 use Rattle.io.specs.Counts.{IsPrefixLen}
 use Rattle.literal.specs.Literal.{max_variables, max_table}
-use Rattle.receipt.specs.declared.Reading.{Reading}
-use Rattle.receipt.specs.declared.Reading.TheVariants.{Read, Refused}
-use Rattle.receipt.specs.declared.Searching.{Searching}
+use Rattle.std.specs.Prelude.{Result, Err, Ok}
+use Rattle.receipt.specs.declared.Searched.{Searched}
+use Rattle.receipt.specs.declared.Read.{Read}
+use Rattle.receipt.specs.declared.Refusal.{Refusal}
 use Rattle.receipt.specs.Answers.{read_variables}
 use Rattle.theory.specs.Calls.{over, SearchCall, solve_call, solve_variables}
 use Rattle.theory.specs.Strip.{read_strip}
@@ -26,11 +27,11 @@ pub few_variables : (s : List ℕ) → solve_variables s ≤ max_variables
 unfolding solve_variables
 few_variables s = go (read_strip s max_table).reading refl
   where
-    go : (r : Reading) → (read_strip s max_table).reading ≡ r → read_variables r ≤ max_variables
-    go (Refused f) e = omega arith
-    go (Read n u) e = (accepted_sizes n (read_strip s max_table).table (read_accepted s max_table n u e)).variables
+    go : (r : Result Read Refusal) → (read_strip s max_table).reading ≡ r → read_variables r ≤ max_variables
+    go (Err f) e = omega arith
+    go (Ok d) e = (accepted_sizes d.variables (read_strip s max_table).table (read_accepted s max_table d.variables d.used e)).variables
 
-module _ (s : List ℕ) (n : ℕ) (a : Searching) (plan : List ℕ) (trail : List ℤ)
+module _ (s : List ℕ) (n : ℕ) (a : Result Searched Refusal) (plan : List ℕ) (trail : List ℤ)
     (is : called a plan trail ≡ solve_call s allowance (replicate max_variables 0) (replicate max_variables (pos 0))) (v : n ≡ solve_variables s) where
   pub printed : search_text a (take n plan) (take n trail) ≡ report_of s
   unfolding report_of

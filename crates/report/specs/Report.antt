@@ -3,8 +3,9 @@ use Rattle.std.specs.Prelude.{List, [], ◌∷◌, ◌++◌, map, ℕ, ℤ, pos,
 use Rattle.literal.specs.Literal.{max_variables}
 use Rattle.receipt.specs.declared.Outcome.{Outcome}
 use Rattle.receipt.specs.declared.Outcome.TheVariants.{LaidOut, NoLayout, Stopped}
-use Rattle.receipt.specs.declared.Searching.{Searching}
-use Rattle.receipt.specs.declared.Searching.TheVariants.{Ended, Refused}
+use Rattle.std.specs.Prelude.{Result, Err, Ok}
+use Rattle.receipt.specs.declared.Searched.{Searched}
+use Rattle.receipt.specs.declared.Refusal.{Refusal}
 use Rattle.theory.specs.Calls.{solve_variables, solve_call}
 use Rattle.text.specs.Text.{codes, decimal, signed, line, refused_text}
 
@@ -33,9 +34,9 @@ lists_of Stopped plan trail = []
 unfoldable pub ended_text : Outcome → ℕ → List ℕ → List ℤ → List ℕ
 ended_text o k plan trail = line (outcome_words o) [] ++ (count_text k ++ lists_of o plan trail)
 
-abbrev pub search_text : Searching → List ℕ → List ℤ → List ℕ
-search_text (Ended o k) plan trail = ended_text o k plan trail
-search_text (Refused f) plan trail = refused_text f
+abbrev pub search_text : Result Searched Refusal → List ℕ → List ℤ → List ℕ
+search_text (Ok d) plan trail = ended_text d.outcome d.count plan trail
+search_text (Err f) plan trail = refused_text f
 
 -- the bytes printed: a strip is solved with lists of the program's own, of which the first n are printed
 unfoldable pub report_of : List ℕ → List ℕ

@@ -10,10 +10,10 @@ ghost use Rattle.text.specs.Text.{line};
 ghost use Rattle.report.specs.Report.{outcome_words, count_text, lists_text, ended_text, search_text, report_of};
 
 use literal::Literal;
-use receipt::{Outcome, Searching};
+use receipt::{Outcome, Refusal, Searched};
 
 // "allows 1,000,000 splits"
-const ALLOWANCE: u32 = 1000000;
+const ALLOWANCE: u32 = 1_000_000;
 
 // One byte past the longest strip is enough to tell that a strip is too long.
 pub const INPUT: usize = strip::MAX_STRIP + 1;
@@ -39,7 +39,7 @@ fn put_count(out: &mut [u8], at: usize, count: u32) -> usize
     ensures upper_bound { result ≤ at + 27 }
 {
     let word = text::put_bytes(out, at, b"count");
-    let number = text::put_number(out, word, count as u64);
+    let number = text::put_number(out, word, u64::from(count));
     text::put_bytes(out, number, b"\n")
 }
 
@@ -49,9 +49,9 @@ fn put_lists(out: &mut [u8], at: usize, plan: &[u8], trail: &[i16]) -> usize
     ensures { Appended out.old at (lists_text plan.now trail.now) out.new result }
 {
     let first = text::put_bytes(out, at, b"plan");
-    let choice = text::put_choices(out, first, plan);
+    let choice = text::put_words(out, first, plan);
     let second = text::put_bytes(out, choice, b"\ntrail");
-    let path = text::put_entries(out, second, trail);
+    let path = text::put_words(out, second, trail);
     text::put_bytes(out, path, b"\n")
 }
 
@@ -63,18 +63,17 @@ fn put_ended(out: &mut [u8], outcome: Outcome, count: u32, plan: &[u8], trail: &
     let splits = put_count(out, word, count);
     match outcome {
         Outcome::LaidOut => put_lists(out, splits, plan, trail),
-        Outcome::NoLayout => splits,
-        Outcome::Stopped => splits,
+        Outcome::NoLayout | Outcome::Stopped => splits,
     }
 }
 
-fn put_search(out: &mut [u8], found: Searching, plan: &[u8], trail: &[i16]) -> usize
+fn put_search(out: &mut [u8], found: Result<Searched, Refusal>, plan: &[u8], trail: &[i16]) -> usize
     requires { 4 * length plan.now + 7 * length trail.now + 100 ≤ length out.old }
     ensures { Appended out.old 0 (search_text found plan.now trail.now) out.new result }
 {
     match found {
-        Searching::Ended { outcome, count } => put_ended(out, outcome, count, plan, trail),
-        Searching::Refused(refusal) => text::put_refusal(out, refusal),
+        Ok(searched) => put_ended(out, searched.outcome, searched.count, plan, trail),
+        Err(refusal) => text::put_refusal(out, refusal),
     }
 }
 
@@ -87,6 +86,5 @@ pub fn report(strip: &[u8], out: &mut [u8; PRINTED]) -> usize
     let mut trail = [0i16; Literal::MAX_VARIABLES];
     let solved = solve::solve(strip, ALLOWANCE, &mut plan, &mut trail);
     let n = solved.variables;
-    let answer = solved.answer;
-    put_search(out, answer, &plan[..n], &trail[..n])
+    put_search(out, solved.answer, &plan[..n], &trail[..n])
 }

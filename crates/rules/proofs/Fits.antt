@@ -2,7 +2,7 @@
 use mathlib.Core.Path.{◌≡◌, refl, ap, sym, ◌∙◌}
 use mathlib.Core.Bool.{Bool, true, false, not, ◌&&◌, or-true}
 use mathlib.Core.Logic.{◌≢◌, ⊎_elim}
-use mathlib.Core.Option.{Option, none, some, map, bind}
+use Rattle.std.specs.Prelude.{Option, None, Some, option_map, option_and_then}
 use mathlib.Core.List.{Memᴰ}
 use Prim.Native.Nat.{◌<◌}
 use native.Mathlib.Decide.{ℕ_discrete}
@@ -55,15 +55,15 @@ module _ (p : PairRule) (g h : Clause) where
   fits_pairs {a} {b} f = and_intro (tested p h a ∙ mem_stands h (beside p a) f.right) (go (partner g h a) (find_finds _ g))
     where
       go : (o : Option Literal) → Finds (λ y. stands (opposite y) h && differ a y) g o → not (is_none o) ≡ true
-      go none k = absurd (true_not_false (and_intro (mem_stands h (opposite b) f.crossed_by) (differs a b f.apart)) (k b f.crossing))
-      go (some y) k = refl
+      go None k = absurd (true_not_false (and_intro (mem_stands h (opposite b) f.crossed_by) (differs a b f.apart)) (k b f.crossing))
+      go (Some y) k = refl
 
   pairs_fits : (a : Literal) → Memᴰ a g → pairs (wanted p) g h a ≡ true → (b : Literal) × Fits p g h a b
   pairs_fits a m e = let w = and_true (passes (wanted p) h a) _ e in go w.0 (partner g h a) (find_finds _ g) w.1
     where
       go : passes (wanted p) h a ≡ true → (o : Option Literal) → Finds (λ y. stands (opposite y) h && differ a y) g o → not (is_none o) ≡ true → (b : Literal) × Fits p g h a b
-      go q none k z = absurd (true_not_false z refl)
-      go q (some b) k z =
+      go q None k z = absurd (true_not_false z refl)
+      go q (Some b) k z =
           let w = and_true (stands (opposite b) h) (differ a b) k.1 in (
             b,
             record {
@@ -76,38 +76,36 @@ module _ (p : PairRule) (g h : Clause) where
           )
 
 -- the rule asks nothing exactly where no literal is paired
-step_paired : (p : PairRule) (g h : Clause) → pair_step p g h ≡ none → paired (wanted p) g h ≡ none
-unfolding bind
+step_paired : (p : PairRule) (g h : Clause) → pair_step p g h ≡ None → paired (wanted p) g h ≡ None
 step_paired Seven g h e = map_none _ _ e
 step_paired Eight g h e = go (paired Opposed g h) (find_finds (pairs Opposed g h) g) e
   where
-    go : (o : Option Literal) → Finds (pairs Opposed g h) g o → bind o (λ x. map (tie x) (partner g h x)) ≡ none → o ≡ none
-    go none k q = refl
-    go (some x) k q = absurd (true_not_false (and_true (stands (opposite x) h) _ k.1).1 (rw (map_none (tie x) (partner g h x) q)))
+    go : (o : Option Literal) → Finds (pairs Opposed g h) g o → option_and_then (λ x. option_map (tie x) (partner g h x)) o ≡ None → o ≡ None
+    go None k q = refl
+    go (Some x) k q = absurd (true_not_false (and_true (stands (opposite x) h) _ k.1).1 (rw (map_none (tie x) (partner g h x) q)))
 
-paired_step : (p : PairRule) (g h : Clause) → paired (wanted p) g h ≡ none → pair_step p g h ≡ none
-unfolding bind
+paired_step : (p : PairRule) (g h : Clause) → paired (wanted p) g h ≡ None → pair_step p g h ≡ None
 paired_step Seven g h e = rw e
 paired_step Eight g h e = rw e
 
 module _ (p : PairRule) (g h : Clause) where
-  step_unfit : pair_step p g h ≡ none → (a b : Literal) → ¬ Fits p g h a b
+  step_unfit : pair_step p g h ≡ None → (a b : Literal) → ¬ Fits p g h a b
   step_unfit e a b f = true_not_false (fits_pairs p g h f) (find_none _ g (step_paired p g h e) a f.left)
 
-  unfit_step : ((a b : Literal) → ¬ Fits p g h a b) → pair_step p g h ≡ none
+  unfit_step : ((a b : Literal) → ¬ Fits p g h a b) → pair_step p g h ≡ None
   unfit_step unfit = paired_step p g h (go (paired (wanted p) g h) (find_finds _ g))
     where
-      go : (o : Option Literal) → Finds (pairs (wanted p) g h) g o → o ≡ none
-      go none k = refl
-      go (some a) k = let w = pairs_fits p g h a k.0 k.1 in absurd (unfit a w.0 w.1)
+      go : (o : Option Literal) → Finds (pairs (wanted p) g h) g o → o ≡ None
+      go None k = refl
+      go (Some a) k = let w = pairs_fits p g h a k.0 k.1 in absurd (unfit a w.0 w.1)
 
 -- a quick look at h beside the counts of g: the first literal that crosses, and another ---------------------------------
 
-pub none_crosses : (p : PairRule) (g h : Clause) → none ≡ find (passes Opposed g) h → pair_step p g h ≡ none
+pub none_crosses : (p : PairRule) (g h : Clause) → None ≡ find (passes Opposed g) h → pair_step p g h ≡ None
 none_crosses p g h e = unfit_step p g h (λ a b f.
     true_not_false (mem_stands g (opposite (opposite b)) (rw (opposite_opposite b) f.crossing)) (find_none (passes Opposed g) h (sym e) (opposite b) f.crossed_by))
 
-pub none_another : (p : PairRule) (g h : Clause) (x : Literal) → none ≡ find (passes (another p x) g) h → pair_step p g h ≡ none
+pub none_another : (p : PairRule) (g h : Clause) (x : Literal) → None ≡ find (passes (another p x) g) h → pair_step p g h ≡ None
 none_another Seven g h x e = unfit_step Seven g h (λ a b f. elim (ℕ_discrete (var x) (var a)) [
   | yes q ↦ unless (opposite b) f.crossed_by (rw (opposite_opposite b, mem_stands g b f.crossing) (or-true (stands (opposite b) g))) (λ r. f.apart (sym q ∙ r ∙ var_opposite b))
   | no q ↦ unless a f.right (or_left _ (mem_stands g a f.left)) q
@@ -130,7 +128,7 @@ beside_twice : (p : PairRule) (a : Literal) → beside p (beside p a) ≡ a
 beside_twice Seven a = refl
 beside_twice Eight a = opposite_opposite a
 
-pub none_wanted : (p : PairRule) (g h : Clause) → none ≡ find (passes (wanted p) g) h → pair_step p g h ≡ none
+pub none_wanted : (p : PairRule) (g h : Clause) → None ≡ find (passes (wanted p) g) h → pair_step p g h ≡ None
 none_wanted p g h e = unfit_step p g h (λ a b f.
     true_not_false (tested p g (beside p a) ∙ rw (beside_twice p a) (mem_stands g a f.left)) (find_none (passes (wanted p) g) h (sym e) (beside p a) f.right))
 
@@ -140,13 +138,13 @@ abbrev pub Unfit : PairRule → Clause → Clause → Type 0
 Unfit p g h = live g ≡ true → live h ≡ true → (a b : Literal) → ¬ Fits p g h a b
 
 module _ (p : PairRule) (g h : Clause) where
-  pub rule_unfit : pair_rule p g h ≡ none → Unfit p g h
+  pub rule_unfit : pair_rule p g h ≡ None → Unfit p g h
   rule_unfit e lg lh = step_unfit p g h (cond_none (live g && live h) (pair_step p g h) (sym (pair_live p g h) ∙ e) (and_intro lg lh))
 
-  pub unfit_rule : Unfit p g h → pair_rule p g h ≡ none
+  pub unfit_rule : Unfit p g h → pair_rule p g h ≡ None
   unfit_rule k = pair_live p g h ∙ go (live g && live h) refl
     where
-      go : (b : Bool) → (live g && live h) ≡ b → when b (pair_step p g h) ≡ none
+      go : (b : Bool) → (live g && live h) ≡ b → when b (pair_step p g h) ≡ None
       go true e = let w = and_true (live g) (live h) e in unfit_step p g h (k w.0 w.1)
       go false e = refl
 
@@ -164,7 +162,7 @@ fits_turned {p} {g} {h} {a} {b} f = record {
   apart = λ e. f.apart (sym (var_beside p a) ∙ e ∙ var_opposite b);
 }
 
-pub turned_unfit : (p : PairRule) (g h : Clause) → pair_step p h g ≡ none → Unfit p g h
+pub turned_unfit : (p : PairRule) (g h : Clause) → pair_step p h g ≡ None → Unfit p g h
 turned_unfit p g h e lg lh a b f = step_unfit p h g e (beside p a) (opposite b) (fits_turned f)
 
 -- a step x := t -------------------------------------------------------------------------------------------------------

@@ -1,7 +1,7 @@
 -- Rules 7 and 8 look at live clauses, and else ask what `pair_step` says.
 use mathlib.Core.Path.{◌≡◌, refl}
 use mathlib.Core.Bool.{Bool, true, false, not, ◌&&◌, ◌||◌, cond}
-use mathlib.Core.Option.{Option, some}
+use Rattle.std.specs.Prelude.{Option, Some}
 use mathlib.Core.List.{[], ◌∷◌}
 use Rattle.general.specs.Search.{find, any}
 use Rattle.literal.specs.declared.Literal.{Literal}
@@ -16,7 +16,7 @@ unfolding any find
 any_found test [] = refl
 any_found test (x ∷ c) = go (test x) (find test c) (any_found test c)
   where
-    go : (b : Bool) (o : Option Literal) → any test c ≡ not (is_none o) → (b || any test c) ≡ not (is_none (cond b (some x) o))
+    go : (b : Bool) (o : Option Literal) → any test c ≡ not (is_none o) → (b || any test c) ≡ not (is_none (cond b (Some x) o))
     go true o ih = refl
     go false o ih = ih
 

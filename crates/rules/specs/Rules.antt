@@ -1,7 +1,7 @@
 -- Rules 1 to 8 as code names them, and what they ask.
-use Rattle.std.specs.Prelude.{◌≡◌, Bool, false, not, ◌&&◌, ◌⊎◌, ◌≢◌, ℕ, ◌<◌, eqb, ℤ}
-use mathlib.Core.List.{List, Memᴰ}
-use Rattle.std.proofs.Math.Option.{Option, none, some, map, bind}
+use Rattle.std.specs.Prelude.{◌≡◌, Bool, not, ◌&&◌, ◌⊎◌, ◌≢◌, ℕ, ◌<◌, eqb}
+use mathlib.Core.List.{Memᴰ}
+use Rattle.std.specs.Prelude.{Option, option_map, option_and_then}
 use Rattle.general.specs.Search.{find}
 use Rattle.literal.specs.declared.Literal.{Literal}
 use Rattle.literal.specs.Literal.{TRUE, var}
@@ -10,19 +10,11 @@ use Rattle.theory.specs.Formula.{Clause}
 use Rattle.theory.specs.Rules.{occurs, when, tie, becomes_false, is_none, partner, rule1, rule2, rule3, rule4, rule5, rule6, rule7, rule8}
 use Rattle.clause.specs.declared.Test.{Test}
 use Rattle.clause.specs.declared.Test.TheVariants.{Common, Opposed, Partner, Shared}
-use Rattle.clause.specs.declared.Found.{Found}
-use Rattle.clause.specs.Reading.{clause_at, CountsOf}
-use Rattle.clause.specs.Finding.{found, passes}
-use Rattle.rules.specs.declared.Fit.{Fit}
-use Rattle.rules.specs.declared.Fit.TheVariants.{Nothing, Asks}
+use Rattle.clause.specs.Finding.{passes}
 use Rattle.rules.specs.declared.PairRule.{PairRule}
 use Rattle.rules.specs.declared.PairRule.TheVariants.{Seven, Eight}
 use Rattle.rules.specs.declared.Rule.{Rule}
 use Rattle.rules.specs.declared.Rule.TheVariants.{One, Two, Three, Four, Five, Six}
-
-abbrev pub fit : Fit → Option Step
-fit Nothing = none
-fit (Asks s) = some s
 
 abbrev pub pair_rule : PairRule → Clause → Clause → Option Step
 pair_rule Seven = rule7
@@ -35,13 +27,6 @@ rule_of Three = rule3
 rule_of Four = rule4
 rule_of Five = rule5
 rule_of Six = rule6
-
--- of the clause that begins at an index, and of two
-abbrev pub asks_at : List ℤ → List ℕ → Rule → ℕ → Option Step
-asks_at t v rule i = rule_of rule (clause_at t v i)
-
-abbrev pub asks_pair : List ℤ → List ℕ → PairRule → ℕ → ℕ → Option Step
-asks_pair t v rule g h = pair_rule rule (clause_at t v g) (clause_at t v h)
 
 -- rules 2 and 4: where n are true, the first literal that passes becomes false
 abbrev pub false_where : ℕ → Test → Clause → Option Step
@@ -57,14 +42,7 @@ paired test g h = find (pairs test g h) g
 -- rules 7 and 8 without the test that both clauses are live
 abbrev pub pair_step : PairRule → Clause → Clause → Option Step
 pair_step Seven g h = becomes_false (paired Common g h)
-pair_step Eight g h = bind (paired Opposed g h) (λ x. map (tie x) (partner g h x))
-
--- what is found, and asked, of g beside the clause that an array counts
-abbrev pub Paired : Test → List ℕ → Clause → Found → Type 0
-Paired test k g r = (h : Clause) → CountsOf k h → found r ≡ paired test g h
-
-abbrev pub PairStep : PairRule → List ℕ → Clause → Fit → Type 0
-PairStep rule k g r = (h : Clause) → CountsOf k h → fit r ≡ pair_step rule g h
+pair_step Eight g h = option_and_then (λ x. option_map (tie x) (partner g h x)) (paired Opposed g h)
 
 -- what h holds of g beside x, whose opposite stands in g: rule 7 wants another literal or its opposite, rule 8 a second opposite
 abbrev pub another : PairRule → Literal → Test
@@ -75,10 +53,6 @@ another Eight x = Partner x
 abbrev pub wanted : PairRule → Test
 wanted Seven = Common
 wanted Eight = Opposed
-
--- that the rule may fit is no promise; that it may not is one
-abbrev pub MayFit : PairRule → List ℕ → Clause → Bool → Type 0
-MayFit rule k h r = (g : Clause) → CountsOf k g → r ≡ false → pair_step rule g h ≡ none
 
 -- no open literal of y's variable stands in a clause
 abbrev pub Without : Literal → Clause → Type 0

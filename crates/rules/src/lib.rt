@@ -1,13 +1,14 @@
 // What the rules of document 01 ask: rules 1 to 6 of one clause as it stands, rules 7 and 8 of two.
 #![tactic(auto)]
 
-ghost use Rattle.std.specs.Prelude.{◌≡◌};
-ghost use Rattle.theory.specs.Rules.{tie, becomes_false, rule1, rule3, rule5, rule6};
-ghost use Rattle.clause.specs.Reading.{Ready, clause_at, CountsOf};
-ghost use Rattle.clause.specs.Finding.{found};
-ghost use Rattle.rules.specs.Rules.{fit, asks_at, asks_pair, false_where, Paired, PairStep, another, wanted, MayFit};
+ghost use Rattle.std.specs.Prelude.{◌≡◌, false, Option, None};
+ghost use Rattle.literal.specs.Literal.{FALSE};
+ghost use Rattle.theory.specs.Rules.{tie, rule1, rule3, rule5, rule6};
+ghost use Rattle.theory.specs.declared.Step.TheVariants.{Becomes};
+ghost use Rattle.clause.specs.Literals.{clause_of, counted};
+ghost use Rattle.rules.specs.Rules.{rule_of, pair_rule, false_where, paired, pair_step, another, wanted};
 
-use clause::{Found, Next, Test};
+use clause::{Counted, Standing, Test};
 use literal::Literal;
 use theory::Step;
 
@@ -29,28 +30,17 @@ pub enum Rule {
     Six,
 }
 
-// Whether a rule fits, and what it asks.
-#[derive(Clone, Copy)]
-pub enum Fit {
-    Nothing,
-    Asks(Step),
-}
-
-// The literal that was found becomes false.
-fn becomes_false(x: Found) -> Fit
-    ensures { fit result ≡ becomes_false (found x) }
+fn becomes_false(x: Literal) -> Step
+    ensures { result ≡ Becomes x FALSE }
 {
-    match x {
-        Found::Nothing => Fit::Nothing,
-        Found::At(l) => Fit::Asks(Step::Becomes(l, Literal::FALSE)),
-    }
+    Step::Becomes(x, Literal::FALSE)
 }
 
 // Exactly one of x and y is true: the higher becomes the opposite of the lower.
 fn tie(x: Literal, y: Literal) -> Step
     ensures { result ≡ tie x y }
 {
-    if x.variable().0 < y.variable().0 {
+    if x.variable() < y.variable() {
         Step::Becomes(y, x.opposite())
     } else {
         Step::Becomes(x, y.opposite())
@@ -60,241 +50,146 @@ fn tie(x: Literal, y: Literal) -> Step
 // One clause --------------------------------------------------------------------------------------------------------
 
 // 1. Two true entries, or none true and none open: dead end.
-fn rule_1(table: &[i16], values: &[u16; Literal::VARIABLES], from: usize) -> Fit
-    requires { Ready table.now values.now }
-    ensures { fit result ≡ rule1 (clause_at table.now values.now from) }
+fn rule_1(standing: Standing, from: usize) -> Option<Step>
+    ensures { result ≡ rule1 (clause_of standing.entry from) }
 {
-    if 2 <= clause::times_at(table, values, from, Literal::TRUE) {
-        return Fit::Asks(Step::DeadEnd);
-    }
-    let first = clause::next_literal(table, values, from);
-    match first {
-        Next::Closed => Fit::Asks(Step::DeadEnd),
-        Next::Stands(_, _) => Fit::Nothing,
+    if 2 <= standing.times(from, Literal::TRUE) || standing.literals(from).next().is_none() {
+        Some(Step::DeadEnd)
+    } else {
+        None
     }
 }
 
 // 3. None true, one open: it becomes true.
-fn rule_3(table: &[i16], values: &[u16; Literal::VARIABLES], from: usize) -> Fit
-    requires { Ready table.now values.now }
-    ensures { fit result ≡ rule3 (clause_at table.now values.now from) }
+fn rule_3(standing: Standing, from: usize) -> Option<Step>
+    ensures { result ≡ rule3 (clause_of standing.entry from) }
 {
-    let first = clause::next_literal(table, values, from);
-    let Next::Stands(x, second) = first else {
-        return Fit::Nothing;
-    };
-    let rest = clause::next_literal(table, values, second);
-    let Next::Closed = rest else {
-        return Fit::Nothing;
-    };
-    if x.is_open() {
-        Fit::Asks(Step::Becomes(x, Literal::TRUE))
-    } else {
-        Fit::Nothing
+    let mut literals = standing.literals(from);
+    match (literals.next(), literals.next()) {
+        (Some(x), None) if x.is_open() => Some(Step::Becomes(x, Literal::TRUE)),
+        _ => None,
     }
 }
 
 // Rules 2 and 4: where so many are true, the first literal that passes becomes false.
-fn false_where(
-    table: &[i16],
-    values: &[u16; Literal::VARIABLES],
-    from: usize,
-    trues: u16,
-    test: Test,
-) -> Fit
-    requires { Ready table.now values.now }
-    ensures { fit result ≡ false_where trues test (clause_at table.now values.now from) }
+fn false_where(standing: Standing, from: usize, trues: usize, test: Test) -> Option<Step>
+    ensures { result ≡ false_where trues test (clause_of standing.entry from) }
 {
-    if clause::times_at(table, values, from, Literal::TRUE) != trues {
-        return Fit::Nothing;
+    if standing.times(from, Literal::TRUE) != trues {
+        return None;
     }
-    let counts = clause::counts_at(table, values, from);
-    becomes_false(clause::first_that(table, values, from, &counts, test))
+    standing.count(from).first(from, test).map(becomes_false)
 }
 
 // 5. None true, an entry and its opposite stand: the first entry of a placement other than the first such one becomes false.
-fn rule_5(table: &[i16], values: &[u16; Literal::VARIABLES], from: usize) -> Fit
-    requires { Ready table.now values.now }
-    ensures { fit result ≡ rule5 (clause_at table.now values.now from) }
+fn rule_5(standing: Standing, from: usize) -> Option<Step>
+    ensures { result ≡ rule5 (clause_of standing.entry from) }
 {
-    if clause::times_at(table, values, from, Literal::TRUE) != 0 {
-        return Fit::Nothing;
+    if standing.times(from, Literal::TRUE) != 0 {
+        return None;
     }
-    let counts = clause::counts_at(table, values, from);
-    let complementary = clause::first_that(table, values, from, &counts, Test::Opposed);
-    let Found::At(x) = complementary else {
-        return Fit::Nothing;
-    };
-    becomes_false(clause::first_that(table, values, from, &counts, Test::Apart(x)))
+    let counted = standing.count(from);
+    let x = counted.first(from, Test::Opposed)?;
+    counted.first(from, Test::Apart(x)).map(becomes_false)
 }
 
 // 6. None true, two open entries of different placements and nothing else: tie the higher placement to the lower.
-fn rule_6(table: &[i16], values: &[u16; Literal::VARIABLES], from: usize) -> Fit
-    requires { Ready table.now values.now }
-    ensures { fit result ≡ rule6 (clause_at table.now values.now from) }
+fn rule_6(standing: Standing, from: usize) -> Option<Step>
+    ensures { result ≡ rule6 (clause_of standing.entry from) }
 {
-    let first = clause::next_literal(table, values, from);
-    let Next::Stands(x, second) = first else {
-        return Fit::Nothing;
-    };
-    let then = clause::next_literal(table, values, second);
-    let Next::Stands(y, third) = then else {
-        return Fit::Nothing;
-    };
-    let rest = clause::next_literal(table, values, third);
-    let Next::Closed = rest else {
-        return Fit::Nothing;
-    };
-    if x.is_open() && y.is_open() && clause::differ(x, y) {
-        Fit::Asks(tie(x, y))
-    } else {
-        Fit::Nothing
+    let mut literals = standing.literals(from);
+    match (literals.next(), literals.next(), literals.next()) {
+        (Some(x), Some(y), None) if x.is_open() && y.is_open() && clause::differ(x, y) => {
+            Some(tie(x, y))
+        }
+        _ => None,
+    }
+}
+
+impl Rule {
+    // What the rule asks of the clause at `from`.
+    pub fn asks(self, standing: Standing, from: usize) -> Option<Step>
+        ensures { result ≡ rule_of self (clause_of standing.entry from) }
+    {
+        match self {
+            Rule::One => rule_1(standing, from),
+            Rule::Two => false_where(standing, from, 1, Test::Open),
+            Rule::Three => rule_3(standing, from),
+            Rule::Four => false_where(standing, from, 0, Test::Twice),
+            Rule::Five => rule_5(standing, from),
+            Rule::Six => rule_6(standing, from),
+        }
     }
 }
 
 // Two clauses -------------------------------------------------------------------------------------------------------
 
-// The first literal of the clause at g that passes and has a partner: another in it, of another variable, whose opposite is counted.
-fn first_paired(
-    table: &[i16],
-    values: &[u16; Literal::VARIABLES],
-    g: usize,
-    counts: &[u16; Literal::CODES],
-    test: Test,
-) -> Found
-    requires { Ready table.now values.now }
-    ensures { Paired test counts.now (clause_at table.now values.now g) result }
+// The first literal of the clause at g that passes beside the counted h and has a partner: another in g, of another variable, whose opposite
+// stands in h.
+fn first_paired(g: usize, h: &Counted, test: Test) -> Option<Literal>
+    ensures { result ≡ paired test (clause_of h.now.of g) (counted h.now) }
 {
-    let mut i = g;
-    loop {
-        let next = clause::next_literal(table, values, i);
-        let Next::Stands(x, after) = next else {
-            return Found::Nothing;
-        };
-        if clause::passes(test, counts, x) {
-            let partner = clause::first_that(table, values, g, counts, Test::Partner(x));
-            if let Found::At(_) = partner {
-                return Found::At(x);
-            }
-        }
-        i = after;
-    }
+    h.of.literals(g).find(|x| h.passes(test, *x) && h.first(g, Test::Partner(*x)).is_some())
 }
 
 // 7. Groups G and H hold a common entry a, and b in G has its opposite in H: a becomes false.
 // 8. a and b stand in G, their opposites in H: tie the first such pair in G.
-fn pair_step(
-    table: &[i16],
-    values: &[u16; Literal::VARIABLES],
-    rule: PairRule,
-    g: usize,
-    counts: &[u16; Literal::CODES],
-) -> Fit
-    requires { Ready table.now values.now }
-    ensures { PairStep rule counts.now (clause_at table.now values.now g) result }
+fn pair_step(rule: PairRule, g: usize, h: &Counted) -> Option<Step>
+    ensures { result ≡ pair_step rule (clause_of h.now.of g) (counted h.now) }
 {
     match rule {
-        PairRule::Seven => becomes_false(first_paired(table, values, g, counts, Test::Common)),
+        PairRule::Seven => first_paired(g, h, Test::Common).map(becomes_false),
         PairRule::Eight => {
-            let first = first_paired(table, values, g, counts, Test::Opposed);
-            let Found::At(x) = first else {
-                return Fit::Nothing;
-            };
-            let second = clause::first_that(table, values, g, counts, Test::Partner(x));
-            match second {
-                Found::Nothing => Fit::Nothing,
-                Found::At(y) => Fit::Asks(tie(x, y)),
-            }
+            let x = first_paired(g, h, Test::Opposed)?;
+            let y = h.first(g, Test::Partner(x))?;
+            Some(tie(x, y))
         }
     }
 }
 
-// What a clause holds of another, beside x whose opposite stands there: rule 7 wants another literal or its opposite, rule 8 a second opposite.
-fn another(rule: PairRule, x: Literal) -> Test
-    ensures { result ≡ another rule x }
-{
-    match rule {
-        PairRule::Seven => Test::Shared(x),
-        PairRule::Eight => Test::Partner(x),
-    }
-}
-
-// What the first of the two literals that a rule wants is in the other clause: rule 7 wants it to stand there, rule 8 its opposite.
-fn wanted(rule: PairRule) -> Test
-    ensures { result ≡ wanted rule }
-{
-    match rule {
-        PairRule::Seven => Test::Common,
-        PairRule::Eight => Test::Opposed,
-    }
-}
-
-// Whether rule 7 or 8 may fit a counted clause and the one at h: three quick looks, and most pairs don't pass the first.
-pub fn may_fit(
-    table: &[i16],
-    values: &[u16; Literal::VARIABLES],
-    rule: PairRule,
-    h: usize,
-    counts: &[u16; Literal::CODES],
-) -> bool
-    requires { Ready table.now values.now }
-    ensures { MayFit rule counts.now (clause_at table.now values.now h) result }
-{
-    let crossing = clause::first_that(table, values, h, counts, Test::Opposed);
-    let Found::At(x) = crossing else {
-        return false;
-    };
-    let second = clause::first_that(table, values, h, counts, another(rule, x));
-    let Found::At(_) = second else {
-        return false;
-    };
-    let first = clause::first_that(table, values, h, counts, wanted(rule));
-    match first {
-        Found::Nothing => false,
-        Found::At(_) => true,
-    }
-}
-
-// What rule 7 or 8 asks of the clauses at g, which is counted, and h. Both rules look at live clauses.
-pub fn asks_pair(
-    table: &[i16],
-    values: &[u16; Literal::VARIABLES],
-    rule: PairRule,
-    g: usize,
-    counted: &[u16; Literal::CODES],
-    h: usize,
-) -> Fit
-    requires ready { Ready table.now values.now }
-    requires counts_of { CountsOf counted.now (clause_at table.now values.now g) }
-    ensures { fit result ≡ asks_pair table.now values.now rule g h }
-{
-    if !may_fit(table, values, rule, h, counted) {
-        return Fit::Nothing;
-    }
-    let counts = clause::counts_at(table, values, h);
-    let asked = pair_step(table, values, rule, g, &counts);
-    let Fit::Asks(_) = asked else {
-        return Fit::Nothing;
-    };
-    if clause::live(table, values, g) {
-        if clause::live(table, values, h) {
-            return asked;
+impl PairRule {
+    // What a clause holds of another, beside x whose opposite stands there: rule 7 wants another literal or its opposite, rule 8 a second opposite.
+    fn another(self, x: Literal) -> Test
+        ensures { result ≡ another self x }
+    {
+        match self {
+            PairRule::Seven => Test::Shared(x),
+            PairRule::Eight => Test::Partner(x),
         }
     }
-    Fit::Nothing
-}
 
-// What a rule asks of the clause at `from`.
-pub fn asks(table: &[i16], values: &[u16; Literal::VARIABLES], rule: Rule, from: usize) -> Fit
-    requires { Ready table.now values.now }
-    ensures { fit result ≡ asks_at table.now values.now rule from }
-{
-    match rule {
-        Rule::One => rule_1(table, values, from),
-        Rule::Two => false_where(table, values, from, 1, Test::Open),
-        Rule::Three => rule_3(table, values, from),
-        Rule::Four => false_where(table, values, from, 0, Test::Twice),
-        Rule::Five => rule_5(table, values, from),
-        Rule::Six => rule_6(table, values, from),
+    // What the first of the two literals that a rule wants is in the other clause: rule 7 wants it to stand there, rule 8 its opposite.
+    fn wanted(self) -> Test
+        ensures { result ≡ wanted self }
+    {
+        match self {
+            PairRule::Seven => Test::Common,
+            PairRule::Eight => Test::Opposed,
+        }
+    }
+
+    // Whether the rule may fit a counted clause and the one at h: three quick looks, and most pairs don't pass the first.
+    pub fn may_fit(self, g: &Counted, h: usize) -> bool
+        ensures { result ≡ false → pair_step self (counted g.now) (clause_of g.now.of h) ≡ None }
+    {
+        let Some(x) = g.first(h, Test::Opposed) else {
+            return false;
+        };
+        g.first(h, self.another(x)).is_some() && g.first(h, self.wanted()).is_some()
+    }
+
+    // What the rule asks of a counted clause and the one at h. Both rules look at live clauses.
+    pub fn asks(self, g: &Counted, h: usize) -> Option<Step>
+        ensures { result ≡ pair_rule self (counted g.now) (clause_of g.now.of h) }
+    {
+        if !self.may_fit(g, h) {
+            return None;
+        }
+        let asked = pair_step(self, g.at, &g.of.count(h))?;
+        if g.of.live(g.at) && g.of.live(h) {
+            Some(asked)
+        } else {
+            None
+        }
     }
 }

@@ -12,7 +12,7 @@ ghost use Rattle.theory.specs.Calls.{save_call};
 ghost use Rattle.save.specs.Save.{opening_bytes, element_bytes, elements_bytes, called};
 
 use literal::Literal;
-use receipt::{Checked, Fault, Refusal, Saving};
+use receipt::{Fault, Refusal};
 use table::Pass;
 use theory::Mark;
 
@@ -90,8 +90,8 @@ fn put_elements(strip: &mut [u8], at: usize, table: &[i16]) -> usize
 {
     let mut next = at;
     let mut inside = false;
-    for i in 0..table.len() {
-        let literal = literal::literal_at(table, i);
+    for &entry in table {
+        let literal = Literal::from(entry);
         next = put_element(strip, next, inside, literal);
         inside = literal.is_open();
     }
@@ -118,21 +118,15 @@ fn saved_length(clauses: usize, literals: usize) -> usize
 }
 
 // Every refusal is known before the first store, so a refused call changes nothing.
-pub fn save(table: &[i16], n: usize, strip: &mut [u8]) -> Saving
+pub fn save(table: &[i16], n: usize, strip: &mut [u8]) -> Result<usize, Refusal>
     ensures { called result strip.new ≡ save_call n table.now strip.old }
 {
     let pass = Pass::begin(n).after(table);
-    let checked = pass.verdict();
-    match checked {
-        Checked::Refused(refusal) => Saving::Refused(refusal),
-        Checked::Passed => {
-            if !mentions::mentions_all(table, n) {
-                return Saving::Refused(Refusal::new(Fault::UnmentionedVariable, 0));
-            }
-            if strip.len() < saved_length(pass.clauses as usize, pass.literals as usize) {
-                return Saving::Refused(Refusal::new(Fault::StripShort, 0));
-            }
-            Saving::Saved(put_strip(strip, n as u16, table))
-        }
+    pass.verdict()?;
+    if !mentions::mentions_all(table, n) {
+        return Err(Refusal::new(Fault::UnmentionedVariable, 0));
     }
+    let length = saved_length(pass.clauses as usize, pass.literals as usize);
+    table::at_most(length, strip.len(), Fault::StripShort)?;
+    Ok(put_strip(strip, n as u16, table))
 }

@@ -7,7 +7,9 @@ use native.Mathlib.Omega.{arith}
 use lib.IntN.{ℤ}
 use lib.ListN.{length, take, set, length-set}
 use lib.Seq.{take-suc-set}
-use Rattle.scan.specs.declared.Word.TheVariants.{Number, Wrong, Missing}
+use Rattle.std.specs.Prelude.{Some, None, Ok, Err}
+use Rattle.scan.specs.declared.Word.{Word}
+use Rattle.scan.specs.declared.WrongWord.{WrongWord}
 use Rattle.scan.specs.Scan.{word_at, Filing, filing, wrong, table_from, table_at}
 use Rattle.scan.proofs.Words.{number_inside}
 
@@ -29,33 +31,33 @@ module _ (s : List ℕ) (n from : ℕ) (old : List ℤ) where
   begun h = record { long = refl; room = h; behind = omega arith; stored = omega arith; fuel = length s; enough = omega arith; rest = refl }
 
   module _ {cells : List ℤ} {at used : ℕ} (a : Reached cells at used) where
-    pub wrong_there : (p : ℕ) → Wrong p ≡ word_at s at → wrong p ≡ whole
+    pub wrong_there : (w : WrongWord) → Err w ≡ word_at s at → wrong w.place ≡ whole
     unfolding table_from
-    wrong_there p e = rw (← e) at a.rest
+    wrong_there w e = rw (← e) at a.rest
 
-    pub ended : Missing ≡ word_at s at → filing n (take used cells) ≡ whole
+    pub ended : Ok None ≡ word_at s at → filing n (take used cells) ≡ whole
     unfolding table_from
     ended e = rw (← e) at a.rest
 
-    module _ (v : ℤ) (next : ℕ) (e : Number v next ≡ word_at s at) where
-      pub further : (at < next) × (next ≤ length s)
-      further = number_inside s at v next e
+    module _ (w : Word) (e : Ok (Some w) ≡ word_at s at) where
+      pub further : (at < w.end) × (w.end ≤ length s)
+      further = number_inside s at w e
 
       pub has_cell : used < length cells
       has_cell = omega (arith, further.0, further.1, a.behind, a.room)
 
-      pub turned : Reached (set cells used v) next (used + 1)
+      pub turned : Reached (set cells used w.number) w.end (used + 1)
       unfolding table_from
       turned = go a.fuel a.enough (rw (← e) at a.rest)
         where
-          go : (k : ℕ) → length s ≤ at + k → table_from s n k next (take used cells ++ (v ∷ [])) ≡ whole → Reached (set cells used v) next (used + 1)
+          go : (k : ℕ) → length s ≤ at + k → table_from s n k w.end (take used cells ++ (w.number ∷ [])) ≡ whole → Reached (set cells used w.number) w.end (used + 1)
           go zero l r = absurd (omega (arith, further.0, further.1))
           go (suc k) l r = record {
-            long = length-set cells used v ∙ a.long;
+            long = length-set cells used w.number ∙ a.long;
             room = rw length-set a.room;
             behind = omega (arith, further.0, a.behind);
             stored = rw length-set (omega (arith, has_cell));
             fuel = k;
             enough = omega (arith, further.0);
-            rest = rw (add-one, take-suc-set cells used v has_cell) r;
+            rest = rw (add-one, take-suc-set cells used w.number has_cell) r;
           }

@@ -12,14 +12,12 @@ use lib.ListN.{length, take, drop, replicate}
 use lib.Seq.{take_at, drop_at}
 use Rattle.general.specs.Booleans.{bit}
 use Rattle.literal.specs.Literal.{entry_of}
-use Rattle.receipt.specs.declared.Checked.{Checked}
-use Rattle.receipt.specs.declared.Checked.TheVariants.{Passed, Refused}
+use Rattle.std.specs.Prelude.{Err}
 use Rattle.receipt.specs.declared.Fault.TheVariants.{PlanShort, TrailShort}
 use Rattle.receipt.specs.declared.Outcome.{Outcome}
 use Rattle.receipt.specs.declared.Outcome.TheVariants.{LaidOut, NoLayout, Stopped}
 use Rattle.receipt.specs.declared.Refusal.{Refusal}
-use Rattle.receipt.specs.declared.Searching.TheVariants as searching
-use Rattle.receipt.specs.Receipt.{outcome_number, refusal, receipt}
+use Rattle.receipt.specs.Receipt.{Checked, pass, outcome_number, refusal, receipt}
 use Rattle.receipt.specs.Answers.{searching_receipt}
 use Rattle.receipt.proofs.Numbers.{same_outcome}
 use Rattle.theory.specs.Bound.{N}
@@ -30,7 +28,7 @@ use Rattle.theory.specs.Reasons.{search_by}
 use Rattle.theory.specs.Refusing.{at_most, first_refusal, NotRefused, RefusedFirst}
 use Rattle.theory.specs.Search.{tree_of, needs, search, plan_of, trail_of}
 use Rattle.theory.specs.Table.{check, Accepted, WithinLimits}
-use Rattle.theory.specs.Tree.{Found, Result}
+use Rattle.theory.specs.Tree.{Found, Limited}
 use Rattle.theory.specs.Unknown.{UnknownInTable, Names}
 use Rattle.theory.proofs.Budget.{limited_empty}
 use Rattle.theory.proofs.Demands as demands
@@ -47,11 +45,11 @@ module _ (n : ℕ) (t : List ℤ) (b : ℕ) (plan : List ℕ) (trail : List ℤ)
   abbrev checks : List Checked
   checks = check n t ∷ at_most n (length plan) PlanShort ∷ at_most n (length trail) TrailShort ∷ []
 
-  by_checks : Refusing searching.Refused (λ (u : SearchCall). u.answer) (λ w. search_refused w plan trail) (first_refusal checks) (searched_call n (search n t b) plan trail) s
+  by_checks : Refusing (λ (u : SearchCall). u.answer) (λ w. search_refused w plan trail) (first_refusal checks) (searched_call n (search n t b) plan trail) s
   unfolding search_call
   by_checks = record { is = is; turns = λ w. refl; accepts = λ w e. let z : ◌≡◌ {A = ℕ} 0 1 = cc in omega arith }
 
-  checked : (first_refusal checks ≡ Passed) ↔ Acceptable n t plan trail
+  checked : (first_refusal checks ≡ pass) ↔ Acceptable n t plan trail
   checked =
       let k = both_pass (accepted_exactly n t) (both_pass (most_passes n (length plan) PlanShort) (last_passes (most_passes n (length trail) TrailShort))) in (
         λ e. let h = k.0 e in record { table = h.0; plan_room = h.1.0; trail_room = h.1.1 },
@@ -63,17 +61,17 @@ module _ (n : ℕ) (t : List ℤ) (b : ℕ) (plan : List ℕ) (trail : List ℤ)
   searched a = accepted_is by_checks (checked.1 a)
 
   -- demand 1: "Every table .. within the limits of document 01, with room lent for the results, is accepted"; "Every other input is refused"
-  pub search_accepts : NotRefused searching.Refused s.answer ↔ Acceptable n t plan trail
+  pub search_accepts : NotRefused s.answer ↔ Acceptable n t plan trail
   search_accepts = accepted_when by_checks checked
 
   -- 0 laid out, 10 no layout, 11 stopped, with the count; place 0
-  pub search_answers : NotRefused searching.Refused s.answer → (o : Outcome) × (k : ℕ) × (searching_receipt s.answer ≡ receipt (outcome_number o) 0 k)
+  pub search_answers : NotRefused s.answer → (o : Outcome) × (k : ℕ) × (searching_receipt s.answer ≡ receipt (outcome_number o) 0 k)
   search_answers h =
       let r = search n t b in
       (r.outcome, r.count, ap (λ (u : SearchCall). searching_receipt u.answer) (searched (search_accepts.0 h)))
 
   -- demand 1: "a refused call changes no lent element"
-  pub search_refused_unchanged : (w : Refusal) → s.answer ≡ searching.Refused w → (s.plan ≡ plan) × (s.trail ≡ trail)
+  pub search_refused_unchanged : (w : Refusal) → s.answer ≡ Err w → (s.plan ≡ plan) × (s.trail ≡ trail)
   search_refused_unchanged w e = let q = (unchanged by_checks w e).2 in (ap (λ (u : SearchCall). u.plan) q, ap (λ (u : SearchCall). u.trail) q)
 
   -- by what the check of the table names: past it no call is refused with 5
@@ -87,19 +85,19 @@ module _ (n : ℕ) (t : List ℤ) (b : ℕ) (plan : List ℕ) (trail : List ℤ)
   search_names = search_names_by (table_named n t)
 
   -- refused exactly with the first check that refuses
-  pub search_refused_lem : (w : Refusal) → (s.answer ≡ searching.Refused w) ↔ RefusedFirst checks w
+  pub search_refused_lem : (w : Refusal) → (s.answer ≡ Err w) ↔ RefusedFirst checks w
   search_refused_lem w = (λ e. let o = unchanged by_checks w e in let q : o.0 ≡ w = cc (ap (λ (x : SearchCall). x.answer) o.2) in (first_refuses checks w).0 (rw q at o.1), λ f. refused_with by_checks w ((first_refuses checks w).1 f))
 
   -- 1 to 5 are the table's
-  pub search_table_refused : (w : Refusal) → check n t ≡ Refused w → s.answer ≡ searching.Refused w
+  pub search_table_refused : (w : Refusal) → check n t ≡ Err w → s.answer ≡ Err w
   search_table_refused w e = refused_with by_checks w (rw e)
 
   -- 6: "plan short", under n, of a table within the limits
-  pub search_plan_short : WithinLimits n t → length plan < n → s.answer ≡ searching.Refused (refusal PlanShort 0)
+  pub search_plan_short : WithinLimits n t → length plan < n → s.answer ≡ Err (refusal PlanShort 0)
   search_plan_short w h = let a : Accepted n t = (accepted_exactly n t).1 w in refused_with by_checks (refusal PlanShort 0) (rw (a, lt-ltb (length plan) n h))
 
   -- 7: "trail short", under n, where the plan has room
-  pub search_trail_short : WithinLimits n t → n ≤ length plan → length trail < n → s.answer ≡ searching.Refused (refusal TrailShort 0)
+  pub search_trail_short : WithinLimits n t → n ≤ length plan → length trail < n → s.answer ≡ Err (refusal TrailShort 0)
   search_trail_short w h k =
       let a : Accepted n t = (accepted_exactly n t).1 w in
       refused_with by_checks (refusal TrailShort 0) (rw (a, le-ltb (length plan) n h, lt-ltb (length trail) n k))
@@ -107,7 +105,7 @@ module _ (n : ℕ) (t : List ℤ) (b : ℕ) (plan : List ℕ) (trail : List ℤ)
 -- accepted calls ---------------------------------------------------------------------------------------------------
 
 module _ {n : ℕ} {t : List ℤ} {b : ℕ} {plan : List ℕ} {trail : List ℤ} {s : SearchCall} (c : Call n t b plan trail s) where
-  abbrev r : Result Choice
+  abbrev r : Limited Choice
   r = search n t b
 
   is_search : s ≡ searched_call n r plan trail
@@ -132,7 +130,7 @@ module _ {n : ℕ} {t : List ℤ} {b : ℕ} {plan : List ℕ} {trail : List ℤ}
 
   -- A5: "The tree, its count and every plan are unchanged": a search that kept reasons would answer and write the same, the trail too
   pub search_explained : s ≡ searched_call n (search_by n t b) plan trail
-  search_explained = is_search ∙ ap (λ (x : Result Choice). searched_call n x plan trail) (sym (search_forgets n t b))
+  search_explained = is_search ∙ ap (λ (x : Limited Choice). searched_call n x plan trail) (sym (search_forgets n t b))
 
   -- demand 1: "a search brings back a layout, no layout, or a stop"
   pub search_ends : Reports s LaidOut ⊎ Reports s NoLayout ⊎ Reports s Stopped
@@ -188,7 +186,7 @@ module _ {n : ℕ} {t : List ℤ} {b : ℕ} {plan : List ℕ} {trail : List ℤ}
       let e = (reports LaidOut).0 h in
       let w = demands.laid_out_is_first n t accepted b e in
       let f = demands.search_finished n t accepted b (λ q. let z : ◌≡◌ {A = ℕ} 0 1 = cc in omega arith) in
-      (w.0, w.1, sym (ap (λ (u : Result Choice). u.found) f) ∙ w.2, trail_first ∙ ap (trail_of n) w.2)
+      (w.0, w.1, sym (ap (λ (u : Limited Choice). u.found) f) ∙ w.2, trail_first ∙ ap (trail_of n) w.2)
 
   -- "No layout or stopped: the first n of both become 0."
   pub search_others_zero : ¬ Reports s LaidOut → (take n s.plan ≡ replicate n 0) × (take n s.trail ≡ replicate n (posℤ 0))
@@ -212,9 +210,9 @@ module _ {n : ℕ} {t : List ℤ} {b b' : ℕ} {plan plan' : List ℕ} {trail tr
   search_larger_alike c d l h =
       let e : search n t b' ≡ search n t b = demands.larger_allowance n t (accepted c) b b' l (λ k. h ((reports c Stopped).1 k)) in
       record {
-        answer = ap (λ (u : SearchCall). u.answer) (is_search d ∙ ap (λ (u : Result Choice). searched_call n u plan' trail') e) ∙ sym (ap (λ (u : SearchCall). u.answer) (is_search c));
-        plan = plan_first d ∙ ap (λ (u : Result Choice). plan_of n u.found) e ∙ sym (plan_first c);
-        trail = trail_first d ∙ ap (λ (u : Result Choice). trail_of n u.found) e ∙ sym (trail_first c);
+        answer = ap (λ (u : SearchCall). u.answer) (is_search d ∙ ap (λ (u : Limited Choice). searched_call n u plan' trail') e) ∙ sym (ap (λ (u : SearchCall). u.answer) (is_search c));
+        plan = plan_first d ∙ ap (λ (u : Limited Choice). plan_of n u.found) e ∙ sym (plan_first c);
+        trail = trail_first d ∙ ap (λ (u : Limited Choice). trail_of n u.found) e ∙ sym (trail_first c);
       }
 
 -- "all finished searches of one filing are alike in the outcome, the count, the first n of the plan and the first n of the trail"

@@ -1,14 +1,21 @@
 -- A call of Search, and the words in which the user's demands speak of it.
-use Rattle.std.specs.Prelude.{◌≡◌, List, ℕ, ◌≤◌, ℤ, length, take}
+use Rattle.std.specs.Prelude.{◌≡◌, List, ℕ, ◌≤◌, ℤ, length, take, Result, Ok, Err}
 use Rattle.receipt.specs.declared.Outcome.{Outcome}
-use Rattle.receipt.specs.declared.Searching.{Searching}
+use Rattle.receipt.specs.declared.Refusal.{Refusal}
+use Rattle.receipt.specs.declared.Searched.{Searched}
 use Rattle.receipt.specs.Receipt.{outcome_number}
 use Rattle.receipt.specs.Answers.{searching_receipt}
 use Rattle.theory.specs.Calls.{SearchCall, search_call}
 use Rattle.theory.specs.Table.{WithinLimits}
+use Rattle.search.specs.declared.Tried.{Tried}
+
+-- the answer of a try, without the number of splits that were walked
+abbrev pub answer_of : Result Tried Refusal → Result Searched Refusal
+answer_of (Ok t) = Ok t.searched
+answer_of (Err r) = Err r
 
 -- what the code answers, and the lists after it
-abbrev pub called : Searching → List ℕ → List ℤ → SearchCall
+abbrev pub called : Result Searched Refusal → List ℕ → List ℤ → SearchCall
 called r p t = record { answer = r; plan = p; trail = t }
 
 -- "within the limits of document 01, with room lent for the results"

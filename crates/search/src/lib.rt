@@ -2,29 +2,21 @@
 #![tactic(auto)]
 
 ghost use Rattle.std.specs.Prelude.{◌≡◌};
-ghost use Rattle.receipt.specs.declared.Searching.TheVariants.{Refused};
 ghost use Rattle.theory.specs.Calls.{search_call};
-ghost use Rattle.search.specs.Call.{called};
+ghost use Rattle.search.specs.Call.{answer_of, called};
 
-use receipt::{Checked, Fault, Refusal, Searching};
+use memo::Memory;
+use receipt::{Fault, Refusal, Searched};
 
 // An answer, and how many splits were made for it: those that were known are in its count alone.
 #[derive(Clone, Copy)]
 pub struct Tried {
-    pub answer: Searching,
+    pub searched: Searched,
     pub walked: u32,
 }
 
-fn refused(refusal: Refusal) -> Tried
-    ensures { result.answer ≡ Refused refusal }
-{
-    Tried {
-        answer: Searching::Refused(refusal),
-        walked: 0,
-    }
-}
-
 // Search with so many slots of the memo, and weights of its hash that spread so far: no answer depends on either.
+#[tactic(auto, unfolding(theory::specs::Calls::search_call), using(theory::proofs::Tables::accepted_sizes))]
 pub fn search_with(
     table: &[i16],
     n: usize,
@@ -33,30 +25,23 @@ pub fn search_with(
     trail: &mut [i16],
     slots: usize,
     spread: usize,
-) -> Tried
-    ensures { called result.answer plan.new trail.new ≡ search_call n table.now allowance plan.old trail.old }
+) -> Result<Tried, Refusal>
+    ensures { called (answer_of result) plan.new trail.new ≡ search_call n table.now allowance plan.old trail.old }
 {
-    let checked = table::check_table(table, n);
-    if let Checked::Refused(refusal) = checked {
-        return refused(refusal);
-    }
-    if plan.len() < n {
-        return refused(Refusal::new(Fault::PlanShort, 0));
-    }
-    if trail.len() < n {
-        return refused(Refusal::new(Fault::TrailShort, 0));
-    }
-    fill::clear_bytes(plan, 0, n);
-    fill::clear_numbers(trail, 0, n);
-    let mut memory = [0u16; memo::SIZE];
-    memo::begin(&mut memory, n, slots, spread);
+    table::check_table(table, n)?;
+    table::at_most(n, plan.len(), Fault::PlanShort)?;
+    table::at_most(n, trail.len(), Fault::TrailShort)?;
+    fill::clear(plan, 0, n, 0);
+    fill::clear(trail, 0, n, 0);
+    let mut memory = Memory::new(n, slots, spread);
     let walk = walk::walk_table(table, n, allowance, &mut memory, plan, trail);
-    let outcome = walk.outcome;
-    let count = walk.count;
-    Tried {
-        answer: Searching::Ended { outcome, count },
-        walked: memo::walked(&memory),
-    }
+    Ok(Tried {
+        searched: Searched {
+            outcome: walk.outcome,
+            count: walk.count,
+        },
+        walked: memory.walked,
+    })
 }
 
 pub fn search(
@@ -65,7 +50,7 @@ pub fn search(
     allowance: u32,
     plan: &mut [u8],
     trail: &mut [i16],
-) -> Searching
+) -> Result<Searched, Refusal>
     ensures { called result plan.new trail.new ≡ search_call n table.now allowance plan.old trail.old }
 {
     let tried = search_with(
@@ -76,6 +61,6 @@ pub fn search(
         trail,
         memo::MOST_SLOTS,
         memo::SPREAD,
-    );
-    tried.answer
+    )?;
+    Ok(tried.searched)
 }

@@ -7,7 +7,7 @@ use receipt::Receipt;
 fn shown(receipt: Receipt, plan: &[u8], trail: &[i16]) {
     show::receipt(receipt);
     show::text(b" |");
-    show::bytes(plan);
+    show::numbers(plan);
     if 0 < trail.len() {
         show::text(b" |");
         show::entries(trail);
@@ -19,7 +19,7 @@ fn try_one(table: &[i16], n: usize, allowance: u32) {
     let mut plan = [9u8; 7];
     let mut trail = [9i16; 7];
     let answer = search::search(table, n, allowance, &mut plan, &mut trail);
-    shown(answer.receipt(), &plan, &trail);
+    shown(receipt::searching_receipt(answer), &plan, &trail);
 }
 
 fn filings() {
@@ -71,7 +71,7 @@ fn short_trail() {
     let mut plan = [9u8; 7];
     let mut trail = [9i16; 0];
     let answer = search::search(&[1i16, 0], 1, 100, &mut plan, &mut trail);
-    shown(answer.receipt(), &plan, &trail);
+    shown(receipt::searching_receipt(answer), &plan, &trail);
 }
 
 fn main() {

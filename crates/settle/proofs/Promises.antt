@@ -10,14 +10,13 @@ use lib.ListN.{length, get_or, take, drop, replicate, length-replicate}
 use lib.Seq.{take_at, drop_at}
 use Rattle.general.specs.Lists.{up_to, length_from}
 use Rattle.literal.specs.declared.Literal.TheVariants.{Pos}
-use Rattle.receipt.specs.Receipt.{refusal, receipt}
+use Rattle.receipt.specs.Receipt.{Checked, refusal, receipt, pass}
 use Rattle.receipt.specs.Answers.{settling_receipt}
 use Rattle.receipt.specs.declared.Fault.TheVariants.{StateShort, ReasonsShort}
-use Rattle.receipt.specs.declared.Checked.{Checked}
-use Rattle.receipt.specs.declared.Checked.TheVariants.{Passed, Refused}
-use Rattle.receipt.specs.declared.Refusal.{Refusal}
+use Rattle.std.specs.Prelude.{Result, Ok, Err}
 use Rattle.receipt.specs.declared.Settling.{Settling}
 use Rattle.receipt.specs.declared.Settling.TheVariants as settling
+use Rattle.receipt.specs.declared.Refusal.{Refusal}
 use Rattle.receipt.proofs.Numbers.{not_refused}
 use Rattle.theory.specs.Calls.{over, state_entry, settling_of, state_list, reason_list, SettleCall, settled_call, settle_refused, settle_call}
 use Rattle.theory.specs.Formula.{Choice, clauses, Solution, Within}
@@ -38,11 +37,11 @@ use Rattle.theory.proofs.Tables.{accepted_exactly, accepted_within}
 use Rattle.theory.proofs.Unknown.{none_named}
 use Rattle.settle.specs.Settle.{called}
 
-abbrev pub number_of : Settling → ℕ
+abbrev pub number_of : Result Settling Refusal → ℕ
 number_of r = (settling_receipt r).number
 
 -- a call of Settle: its answer r, and both lists before and after it
-pub record Call (n : ℕ) (t l : List ℤ) (m : List ℕ) (r : Settling) (l' : List ℤ) (m' : List ℕ) : Type 0 where
+pub record Call (n : ℕ) (t l : List ℤ) (m : List ℕ) (r : Result Settling Refusal) (l' : List ℤ) (m' : List ℕ) : Type 0 where
   pub is : called r l' m' ≡ settle_call n t l m
 
 -- "within the limits of document 01, with room lent for the results"
@@ -56,11 +55,11 @@ abbrev pub explanation_of : ℕ → List ℤ → Explanation
 explanation_of n t = explain n (clauses t) (unexplained initial)
 
 -- the three ways in which a call ends
-data Way (n : ℕ) (t l : List ℤ) (m : List ℕ) : Settling → List ℤ → List ℕ → Type 0 where
-  refused : (w : Refusal) → ¬ Acceptable n t l m → Way n t l m (settling.Refused w) l m
-  dead_end : Acceptable n t l m → explanation_of n t ≡ dead → Way n t l m settling.NoLayout (over n (replicate n (posℤ 0)) l) (over n (replicate n 0) m)
+data Way (n : ℕ) (t l : List ℤ) (m : List ℕ) : Result Settling Refusal → List ℤ → List ℕ → Type 0 where
+  refused : (w : Refusal) → ¬ Acceptable n t l m → Way n t l m (Err w) l m
+  dead_end : Acceptable n t l m → explanation_of n t ≡ dead → Way n t l m (Ok settling.NoLayout) (over n (replicate n (posℤ 0)) l) (over n (replicate n 0) m)
   settled : Acceptable n t l m → (u : Explained) → explanation_of n t ≡ rest u →
-      Way n t l m settling.Settled (over n (up_to (λ p. state_entry (u.state p)) n) l) (over n (up_to u.reasons n) m)
+      Way n t l m (Ok settling.Settled) (over n (up_to (λ p. state_entry (u.state p)) n) l) (over n (up_to u.reasons n) m)
 
 abbrev By : ℕ → List ℤ → List ℤ → List ℕ → SettleCall → Type 0
 By n t l m s = Way n t l m s.answer s.list s.reasons
@@ -73,7 +72,7 @@ forgotten n t e = sym (settle_forgets n (clauses t) (unexplained initial)) ∙ a
 abbrev checks : ℕ → List ℤ → List ℤ → List ℕ → List Checked
 checks n t l m = check n t ∷ at_most n (length l) StateShort ∷ at_most n (length m) ReasonsShort ∷ []
 
-checked : (n : ℕ) (t l : List ℤ) (m : List ℕ) → (first_refusal (checks n t l m) ≡ Passed) ↔ Acceptable n t l m
+checked : (n : ℕ) (t l : List ℤ) (m : List ℕ) → (first_refusal (checks n t l m) ≡ pass) ↔ Acceptable n t l m
 checked n t l m =
     let k = both_pass (accepted_exactly n t) (both_pass (most_passes n (length l) StateShort) (last_passes (most_passes n (length m) ReasonsShort))) in (
       λ e. let h = k.0 e in record { table = h.0; list_room = h.1.0; reasons_room = h.1.1 },
@@ -81,7 +80,7 @@ checked n t l m =
     )
 
 -- Settle's own answers refuse nothing
-pub settling_answers : (o : plain.Settled) → NotRefused settling.Refused (settling_of o)
+pub settling_answers : (o : plain.Settled) → NotRefused (settling_of o)
 settling_answers plain.dead w e = let z : ◌≡◌ {A = ℕ} 0 1 = cc in omega arith
 settling_answers (plain.rest s) w e = let z : ◌≡◌ {A = ℕ} 0 1 = cc in omega arith
 
@@ -89,12 +88,12 @@ pub settling_names : {Where : ℕ → ℕ → Type 0} (o : plain.Settled) → Na
 settling_names plain.dead = none_named 10 0 0 (λ e. omega arith)
 settling_names (plain.rest u) = none_named 13 0 0 (λ e. omega arith)
 
-by_checks : {n : ℕ} {t l : List ℤ} {m : List ℕ} {r : Settling} {l' : List ℤ} {m' : List ℕ} → Call n t l m r l' m' →
-    Refusing settling.Refused (λ (s : SettleCall). s.answer) (λ w. settle_refused w l m) (first_refusal (checks n t l m)) (settled_call n (clauses t) l m) (called r l' m')
+by_checks : {n : ℕ} {t l : List ℤ} {m : List ℕ} {r : Result Settling Refusal} {l' : List ℤ} {m' : List ℕ} → Call n t l m r l' m' →
+    Refusing (λ (s : SettleCall). s.answer) (λ w. settle_refused w l m) (first_refusal (checks n t l m)) (settled_call n (clauses t) l m) (called r l' m')
 unfolding settle_call
 by_checks {n} {t} c = record { is = c.is; turns = λ w. refl; accepts = settling_answers (settle n (clauses t) initial) }
 
-way : {n : ℕ} {t l : List ℤ} {m : List ℕ} {r : Settling} {l' : List ℤ} {m' : List ℕ} → Call n t l m r l' m' → Way n t l m r l' m'
+way : {n : ℕ} {t l : List ℤ} {m : List ℕ} {r : Result Settling Refusal} {l' : List ℤ} {m' : List ℕ} → Call n t l m r l' m' → Way n t l m r l' m'
 way {n} {t} {l} {m} c =
     call_cases (by_checks c) (By n t l m) (λ w e. refused w (λ h. not_passed (sym e ∙ (checked n t l m).1 h))) (λ e. ended ((checked n t l m).0 e) (explanation_of n t) refl)
   where
@@ -121,7 +120,7 @@ record End (n : ℕ) (t l' : List ℤ) (m' : List ℕ) : Type 0 where
   entry : (i : ℕ) → i < n → get_or l' i (posℤ 0) ≡ state_entry (state.state (suc i))
   reason : (i : ℕ) → i < n → get_or m' i 0 ≡ state.reasons (suc i)
 
-end : {n : ℕ} {t l : List ℤ} {m : List ℕ} {r : Settling} {l' : List ℤ} {m' : List ℕ} → Way n t l m r l' m' → number_of r ≡ 13 → End n t l' m'
+end : {n : ℕ} {t l : List ℤ} {m : List ℕ} {r : Result Settling Refusal} {l' : List ℤ} {m' : List ℕ} → Way n t l m r l' m' → number_of r ≡ 13 → End n t l' m'
 end (refused w h) q = absurd (not_refused w.fault 13 refl q)
 end (dead_end a e) q = absurd (omega arith)
 end {n} {t} {l} {m} (settled a u e) q = record {
@@ -132,22 +131,22 @@ end {n} {t} {l} {m} (settled a u e) q = record {
   reason = λ i h. written_at u.reasons n m i 0 h;
 }
 
-module _ {n : ℕ} {t l : List ℤ} {m : List ℕ} {r : Settling} {l' : List ℤ} {m' : List ℕ} (c : Call n t l m r l' m') where
+module _ {n : ℕ} {t l : List ℤ} {m : List ℕ} {r : Result Settling Refusal} {l' : List ℤ} {m' : List ℕ} (c : Call n t l m r l' m') where
   -- demand 1: "Every table .. within the limits of document 01, with room lent for the results, is accepted"; "Every other input is refused"
-  pub settle_accepts : NotRefused settling.Refused r ↔ Acceptable n t l m
+  pub settle_accepts : NotRefused r ↔ Acceptable n t l m
   settle_accepts = accepted_when (by_checks c) (checked n t l m)
 
   -- 13 settled, 10 no layout; "Place and count are 0 where nothing else is said."
-  pub settle_answers : NotRefused settling.Refused r → (settling_receipt r ≡ receipt 13 0 0) ⊎ (settling_receipt r ≡ receipt 10 0 0)
+  pub settle_answers : NotRefused r → (settling_receipt r ≡ receipt 13 0 0) ⊎ (settling_receipt r ≡ receipt 10 0 0)
   settle_answers = go (way c)
     where
-      go : {r : Settling} {l' : List ℤ} {m' : List ℕ} → Way n t l m r l' m' → NotRefused settling.Refused r → (settling_receipt r ≡ receipt 13 0 0) ⊎ (settling_receipt r ≡ receipt 10 0 0)
+      go : {r : Result Settling Refusal} {l' : List ℤ} {m' : List ℕ} → Way n t l m r l' m' → NotRefused r → (settling_receipt r ≡ receipt 13 0 0) ⊎ (settling_receipt r ≡ receipt 10 0 0)
       go (refused w h) k = absurd (k w refl)
       go (dead_end a e) k = inr refl
       go (settled a u e) k = inl refl
 
   -- demand 1: "a refused call changes no lent element"
-  pub settle_refused_unchanged : (w : Refusal) → r ≡ settling.Refused w → (l' ≡ l) × (m' ≡ m)
+  pub settle_refused_unchanged : (w : Refusal) → r ≡ Err w → (l' ≡ l) × (m' ≡ m)
   settle_refused_unchanged w e = let q = (unchanged (by_checks c) w e).2 in (ap (λ (s : SettleCall). s.list) q, ap (λ (s : SettleCall). s.reasons) q)
 
   -- A2: 5 is for the first unknown placement, with its group; "for all other numbers it is 0"
@@ -157,18 +156,18 @@ module _ {n : ℕ} {t l : List ℤ} {m : List ℕ} {r : Settling} {l' : List ℤ
       (settling_names (settle n (clauses t) initial))
 
   -- refused exactly with the first check that refuses
-  pub settle_refused_lem : (w : Refusal) → (r ≡ settling.Refused w) ↔ RefusedFirst (checks n t l m) w
+  pub settle_refused_lem : (w : Refusal) → (r ≡ Err w) ↔ RefusedFirst (checks n t l m) w
   settle_refused_lem w = (λ e. let o = unchanged (by_checks c) w e in let q : o.0 ≡ w = cc (ap (λ (x : SettleCall). x.answer) o.2) in (first_refuses (checks n t l m) w).0 (rw q at o.1), λ f. refused_with (by_checks c) w ((first_refuses (checks n t l m) w).1 f))
 
   -- "Tables: 1, 2, 3, 4, 5, then .. 14 (settle)"
-  pub settle_table_refused : (w : Refusal) → check n t ≡ Refused w → r ≡ settling.Refused w
+  pub settle_table_refused : (w : Refusal) → check n t ≡ Err w → r ≡ Err w
   settle_table_refused w e = refused_with (by_checks c) w (rw e)
 
-  pub settle_state_short : WithinLimits n t → length l < n → r ≡ settling.Refused (refusal StateShort 0)
+  pub settle_state_short : WithinLimits n t → length l < n → r ≡ Err (refusal StateShort 0)
   settle_state_short w h = let a : Accepted n t = (accepted_exactly n t).1 w in refused_with (by_checks c) (refusal StateShort 0) (rw (a, lt-ltb (length l) n h))
 
   -- A5: "Turned away: 19, reason list short, after 14"
-  pub settle_reasons_short : WithinLimits n t → n ≤ length l → length m < n → r ≡ settling.Refused (refusal ReasonsShort 0)
+  pub settle_reasons_short : WithinLimits n t → n ≤ length l → length m < n → r ≡ Err (refusal ReasonsShort 0)
   settle_reasons_short w h k =
       let a : Accepted n t = (accepted_exactly n t).1 w in
       refused_with (by_checks c) (refusal ReasonsShort 0) (rw (a, le-ltb (length l) n h, lt-ltb (length m) n k))
@@ -177,7 +176,7 @@ module _ {n : ℕ} {t l : List ℤ} {m : List ℕ} {r : Settling} {l' : List ℤ
   pub settle_rest_kept : (drop n l' ≡ drop n l) × (drop n m' ≡ drop n m)
   settle_rest_kept = go (way c)
     where
-      go : {r : Settling} {l' : List ℤ} {m' : List ℕ} → Way n t l m r l' m' → (drop n l' ≡ drop n l) × (drop n m' ≡ drop n m)
+      go : {r : Result Settling Refusal} {l' : List ℤ} {m' : List ℕ} → Way n t l m r l' m' → (drop n l' ≡ drop n l) × (drop n m' ≡ drop n m)
       go (refused w h) = (refl, refl)
       go (dead_end a e) = (rest_of n (replicate n (posℤ 0)) l (length-replicate n (posℤ 0)), rest_of n (replicate n 0) m (length-replicate {A = ℕ} n 0))
       go (settled a u e) = (rest_of n (up_to (λ p. state_entry (u.state p)) n) l (length_from (λ p. state_entry (u.state p)) 1 n), rest_of n (up_to u.reasons n) m (length_from u.reasons 1 n))
@@ -186,7 +185,7 @@ module _ {n : ℕ} {t l : List ℤ} {m : List ℕ} {r : Settling} {l' : List ℤ
   pub settle_dead_end_zeros : number_of r ≡ 10 → (take n l' ≡ replicate n (posℤ 0)) × (take n m' ≡ replicate n 0)
   settle_dead_end_zeros = go (way c)
     where
-      go : {r : Settling} {l' : List ℤ} {m' : List ℕ} → Way n t l m r l' m' → number_of r ≡ 10 → (take n l' ≡ replicate n (posℤ 0)) × (take n m' ≡ replicate n 0)
+      go : {r : Result Settling Refusal} {l' : List ℤ} {m' : List ℕ} → Way n t l m r l' m' → number_of r ≡ 10 → (take n l' ≡ replicate n (posℤ 0)) × (take n m' ≡ replicate n 0)
       go (refused w h) q = absurd (not_refused w.fault 10 refl q)
       go (dead_end a e) q = (first_of n l (posℤ 0), first_of n m 0)
       go (settled a u e) q = absurd (omega arith)
@@ -195,7 +194,7 @@ module _ {n : ℕ} {t l : List ℤ} {m : List ℕ} {r : Settling} {l' : List ℤ
   pub settle_dead_end_no_layout : number_of r ≡ 10 → (f : Choice) → ¬ Solution n (clauses t) f
   settle_dead_end_no_layout = go (way c)
     where
-      go : {r : Settling} {l' : List ℤ} {m' : List ℕ} → Way n t l m r l' m' → number_of r ≡ 10 → (f : Choice) → ¬ Solution n (clauses t) f
+      go : {r : Result Settling Refusal} {l' : List ℤ} {m' : List ℕ} → Way n t l m r l' m' → number_of r ≡ 10 → (f : Choice) → ¬ Solution n (clauses t) f
       go (refused w h) q = absurd (not_refused w.fault 10 refl q)
       go (dead_end a e) q = dead_end_none (within_of a.table) (forgotten n t e)
       go (settled a u e) q = absurd (omega arith)
@@ -204,7 +203,7 @@ module _ {n : ℕ} {t l : List ℤ} {m : List ℕ} {r : Settling} {l' : List ℤ
   pub settle_settled_exactly : number_of r ≡ 13 → (f : Choice) → Solution n (clauses t) f ↔ Remains n (clauses t) (state_in n l') f
   settle_settled_exactly = go (way c)
     where
-      go : {r : Settling} {l' : List ℤ} {m' : List ℕ} → Way n t l m r l' m' → number_of r ≡ 13 → (f : Choice) → Solution n (clauses t) f ↔ Remains n (clauses t) (state_in n l') f
+      go : {r : Result Settling Refusal} {l' : List ℤ} {m' : List ℕ} → Way n t l m r l' m' → number_of r ≡ 13 → (f : Choice) → Solution n (clauses t) f ↔ Remains n (clauses t) (state_in n l') f
       go (refused w h) q = absurd (not_refused w.fault 13 refl q)
       go (dead_end a e) q = absurd (omega arith)
       go (settled a u e) q =
@@ -213,15 +212,15 @@ module _ {n : ℕ} {t l : List ℤ} {m : List ℕ} {r : Settling} {l' : List ℤ
 
   -- A5, which rule settled it ---------------------------------------------------------------------------------------
 
-  settles : NotRefused settling.Refused r → called r l' m' ≡ settled_call n (clauses t) l m
+  settles : NotRefused r → called r l' m' ≡ settled_call n (clauses t) l m
   settles k = accepted_is (by_checks c) ((checked n t l m).1 (settle_accepts.0 k))
 
   -- without the reasons it is settling as it was: the same number, and the same list
-  pub settle_as_before : NotRefused settling.Refused r → (r ≡ settling_of (settle n (clauses t) initial)) × (l' ≡ over n (state_list n (settle n (clauses t) initial)) l)
+  pub settle_as_before : NotRefused r → (r ≡ settling_of (settle n (clauses t) initial)) × (l' ≡ over n (state_list n (settle n (clauses t) initial)) l)
   settle_as_before k = (ap (λ (s : SettleCall). s.answer) (settles k), ap (λ (s : SettleCall). s.list) (settles k))
 
   -- what the reasons are: those of settling's own steps
-  pub settle_reasons : NotRefused settling.Refused r → m' ≡ over n (reason_list n (explanation_of n t)) m
+  pub settle_reasons : NotRefused r → m' ≡ over n (reason_list n (explanation_of n t)) m
   settle_reasons k = ap (λ (s : SettleCall). s.reasons) (settles k)
 
   module _ (done : number_of r ≡ 13) where

@@ -15,10 +15,10 @@ pub fn number(value: u64) {
 
 // Number, place, count and group.
 pub fn receipt(receipt: Receipt) {
-    io::print_decimal(1, receipt.number as u64);
+    io::print_decimal(1, u64::from(receipt.number));
     number(receipt.place as u64);
-    number(receipt.count as u64);
-    number(receipt.clause.0 as u64);
+    number(u64::from(receipt.count));
+    number(u64::from(receipt.clause.0));
 }
 
 fn entry(e: i16) {
@@ -26,31 +26,18 @@ fn entry(e: i16) {
     if e < 0 {
         text(b"-");
     }
-    io::print_decimal(1, literal::size(e) as u64);
+    io::print_decimal(1, u64::from(literal::size(e)));
 }
 
 pub fn entries(list: &[i16]) {
-    for i in 0..list.len() {
-        entry(list[i]);
+    for &e in list {
+        entry(e);
     }
 }
 
-fn byte(b: u8) {
-    number(b as u64);
-}
-
-pub fn bytes(list: &[u8]) {
-    for i in 0..list.len() {
-        byte(list[i]);
-    }
-}
-
-fn small(x: u16) {
-    number(x as u64);
-}
-
-pub fn numbers(list: &[u16]) {
-    for i in 0..list.len() {
-        small(list[i]);
+// Numbers of any size up to 64 bits.
+pub fn numbers<T: Copy + Into<u64>>(list: &[T]) {
+    for &x in list {
+        number(x.into());
     }
 }

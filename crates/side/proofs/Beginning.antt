@@ -11,27 +11,28 @@ use Rattle.literal.proofs.Codes.{var_at, at_even, at_odd}
 use Rattle.theory.specs.State.{State}
 use Rattle.theory.proofs.States.{Fixed, Valid, assign_well, well_based, base_false}
 use Rattle.tally.specs.Tally.{state_in}
-use Rattle.notes.specs.Notes.{notes_of, Whole}
 use Rattle.moves.specs.Sound.{Sound}
 use Rattle.moves.specs.Deciding.{Decidable, Decided}
 use Rattle.engine.proofs.Begins.{ready_decided}
 use Rattle.side.specs.Side.{Tallied, Siding, Begun}
 use Rattle.side.proofs.Splitting.{code_open}
+use Rattle.occurrences.specs.declared.Index.{Index}
+use Rattle.tally.specs.declared.Tally.{Tally}
+use Rattle.notes.specs.declared.Notes.{Notes}
 
 -- with nothing listed a state is sound
-pub tallied_sound : {ix st wk : List ℕ} → Tallied ix st → Whole wk → (notes_of wk).todo_end ≡ 0 → (notes_of wk).blocks_end ≡ 0 → Sound ix st wk
-tallied_sound t w e r = record {
+pub tallied_sound : {ix : Index} {st : Tally} {wk : Notes} → Tallied ix st → wk.todo_end ≡ 0 → wk.blocks_end ≡ 0 → Sound ix st wk
+tallied_sound t e r = record {
   index = t.index;
   exact = t.exact;
   linked = t.linked;
   classes = t.classes;
-  whole = w;
   todo_room = omega (arith, t.room);
   blocks_room = omega (arith, t.roots);
   todo_inside = λ i h. absurd (omega arith);
 }
 
-module _ {ix st wk : List ℕ} {x : ℕ} (k : Siding ix st wk x) where
+module _ {ix : Index} {st : Tally} {x : ℕ} (k : Siding ix st x) where
   abbrev s : State
   s = state_in st
 
@@ -53,13 +54,13 @@ module _ {ix st wk : List ℕ} {x : ℕ} (k : Siding ix st wk x) where
   valid : Valid max_variables s (literal_at x) FALSE
   valid = record { fixed_x = fixed; fixed_t = base_false (well_based k.well); lower = opened; inside = inside }
 
-  pub siding_decidable : (wk' : List ℕ) → Whole wk' → (notes_of wk').todo_end ≡ 0 → (notes_of wk').blocks_end ≡ 0 → Decidable ix st wk' x
-  siding_decidable wk' w e r = record { sound = tallied_sound k.calm.tallied w e r; opened = k.opened; below = k.below; root = k.root }
+  pub siding_decidable : (wk' : Notes) → wk'.todo_end ≡ 0 → wk'.blocks_end ≡ 0 → Decidable ix st wk' x
+  siding_decidable wk' e r = record { sound = tallied_sound k.calm.tallied e r; opened = k.opened; below = k.below; root = k.root }
 
-  pub siding_begun : (wk' st'' wk'' : List ℕ) → Whole wk' → (notes_of wk').todo_end ≡ 0 → (notes_of wk').blocks_end ≡ 0 → (r : Bool) → Decided ix st wk' x st'' wk'' r → Begun ix st x st'' wk'' r
-  siding_begun wk' st'' wk'' w e r true d = d
-  siding_begun wk' st'' wk'' w e r false d =
+  pub siding_begun : (wk' : Notes) (st'' : Tally) (wk'' : Notes) → wk'.todo_end ≡ 0 → wk'.blocks_end ≡ 0 → (r : Bool) → Decided ix st wk' x st'' wk'' r → Begun ix st x st'' wk'' r
+  siding_begun wk' st'' wk'' e r true d = d
+  siding_begun wk' st'' wk'' e r false d =
       let c = k.calm in (
         d.0,
-        ready_decided (tallied_sound c.tallied w e r) c.counted r k.well c.distinct c.pairs k.opened d.0 d.1 (rw d.0 (assign_well k.well valid)),
+        ready_decided (tallied_sound c.tallied e r) c.counted r k.well c.distinct c.pairs k.opened d.0 d.1 (rw d.0 (assign_well k.well valid)),
       )

@@ -18,8 +18,11 @@ use Rattle.tally.specs.Tally.{state_in}
 use Rattle.moves.specs.Sound.{Sound}
 use Rattle.engine.specs.Ready.{Rested}
 use Rattle.side.specs.Side.{Tallied, Calm}
+use Rattle.occurrences.specs.declared.Index.{Index}
+use Rattle.tally.specs.declared.Tally.{Tally}
+use Rattle.notes.specs.declared.Notes.{Notes}
 
-sound_tallied : {ix st wk : List ℕ} → Sound ix st wk → Tallied ix st
+sound_tallied : {ix : Index} {st : Tally} {wk : Notes} → Sound ix st wk → Tallied ix st
 sound_tallied s = record {
   index = s.index;
   exact = s.exact;
@@ -29,11 +32,11 @@ sound_tallied s = record {
   roots = omega (arith, s.blocks_room);
 }
 
-pub rested_calm : {ix st st' wk' : List ℕ} → Rested ix st st' wk' → Calm ix st'
+pub rested_calm : {ix : Index} {st st' : Tally} {wk' : Notes} → Rested ix st st' wk' → Calm ix st'
 rested_calm r = record { tallied = sound_tallied r.sound; counted = r.counted; distinct = r.distinct; pairs = r.pairs }
 
 -- every clause of a state at rest has one of the three forms
-pub calm_closed : {ix st : List ℕ} → Calm ix st → (c : Clause) → Memᴰ c (formula_of ix) → Closed (standing (state_in st) c)
+pub calm_closed : {ix : Index} {st : Tally} → Calm ix st → (c : Clause) → Memᴰ c (formula_of ix) → Closed (standing (state_in st) c)
 calm_closed {ix} {st} k c m =
     let w = formula_mem ix m in
     rw w.2 (counted_closed (standing (state_in st) (clause_of ix w.0)) (standing_no_false (state_in st) (clause_of ix w.0)) (k.counted w.0 w.1))

@@ -1,9 +1,6 @@
--- How code keeps the variable to split on.
-use Rattle.std.proofs.Math.Option.{Option, none, some}
-use Rattle.std.specs.Prelude.{ℕ}
-use Rattle.side.specs.declared.Branch.{Branch}
-use Rattle.side.specs.declared.Branch.TheVariants.{Nowhere, On}
+-- The number of the variable to split on, if there is one.
+use Rattle.std.specs.Prelude.{ℕ, Option, option_map}
+use Rattle.literal.specs.declared.Variable.{Variable}
 
-abbrev pub branch_of : Branch → Option ℕ
-branch_of Nowhere = none
-branch_of (On p) = some p.0
+abbrev pub branch_of : Option Variable → Option ℕ
+branch_of = option_map (λ p. p.0)

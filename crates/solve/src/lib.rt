@@ -6,30 +6,31 @@ ghost use Rattle.search.specs.Call.{called};
 ghost use Rattle.theory.specs.Calls.{solve_call, solve_variables};
 
 use literal::Literal;
-use receipt::{Reading, Searching};
+use receipt::{Refusal, Searched};
 
 // The search's answer, and the placements of the strip, 0 where it is refused.
 #[derive(Clone, Copy)]
 pub struct Solved {
     pub variables: usize,
-    pub answer: Searching,
+    pub answer: Result<Searched, Refusal>,
 }
 
 pub fn solve(strip: &[u8], allowance: u32, plan: &mut [u8], trail: &mut [i16]) -> Solved
     ensures call { called result.answer plan.new trail.new ≡ solve_call strip.now allowance plan.old trail.old }
     ensures variables { result.variables ≡ solve_variables strip.now }
 {
-    let decoded = strip::decode(strip, Literal::MAX_TABLE);
-    let reading = decoded.reading;
-    match reading {
-        Reading::Refused(refusal) => Solved {
-            variables: 0,
-            answer: Searching::Refused(refusal),
-        },
-        Reading::Read { variables, used } => {
-            let cells = decoded.cells;
-            let answer = search::search(&cells[..used], variables, allowance, plan, trail);
-            Solved { variables, answer }
+    match strip::decode(strip, Literal::MAX_TABLE) {
+        Ok(decoded) => {
+            let read = decoded.read;
+            let table = &decoded.cells[..read.used];
+            Solved {
+                variables: read.variables,
+                answer: search::search(table, read.variables, allowance, plan, trail),
+            }
         }
+        Err(refusal) => Solved {
+            variables: 0,
+            answer: Err(refusal),
+        },
     }
 }

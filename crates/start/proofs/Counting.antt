@@ -16,10 +16,10 @@ use Rattle.theory.specs.State.{initial}
 use Rattle.theory.proofs.Propagation.{none_left}
 use Rattle.occurrences.specs.Index.{Indexed, clause_count, clause_of, formula_of}
 use Rattle.occurrences.proofs.Formulas.{mem_formula}
-use Rattle.tally.specs.Tally.{Tally, tally_of, with_count}
+use Rattle.tally.specs.Tally.{with_count}
 use Rattle.tally.specs.Counts.{Exact}
 use Rattle.tally.proofs.Standing.{clause_length}
-use Rattle.notes.specs.Notes.{Notes, notes_of, Whole, with_todo, with_todo_end, with_blocks_end}
+use Rattle.notes.specs.Notes.{with_todo, with_todo_end, with_blocks_end}
 use Rattle.moves.specs.Stepping.{Died}
 use Rattle.engine.proofs.Along.{within_indexed}
 use Rattle.start.specs.Opening.{OpenBelow}
@@ -27,8 +27,11 @@ use Rattle.start.specs.Counting.{CountedBelow, Fresh}
 use Rattle.start.proofs.Rooms.{roots_few, room_few}
 use Rattle.start.proofs.Opening.{set_below, open_counted, open_initial, open_classes}
 use Rattle.start.proofs.Initial.{Opens, opens_initial, trues_initial, standing_empty}
+use Rattle.occurrences.specs.declared.Index.{Index}
+use Rattle.tally.specs.declared.Tally.{Tally}
+use Rattle.notes.specs.declared.Notes.{Notes}
 
-pub counted_begins : {ix : List ℕ} {t : Tally} {w : Notes} → OpenBelow t variables → CountedBelow ix t w 0 0
+pub counted_begins : {ix : Index} {t : Tally} {w : Notes} → OpenBelow t variables → CountedBelow ix t w 0 0
 counted_begins o = record {
   opened = o;
   counts = λ g h. absurd (omega arith);
@@ -39,7 +42,7 @@ counted_begins o = record {
 }
 
 -- clause n is written past the last note, and is one where the end moves on
-module _ {ix : List ℕ} {t : Tally} {w : Notes} {end n : ℕ} (c : CountedBelow ix t w end n) (inside : n < max_clauses) (long : length w.todo ≡ max_table) (x : ℕ)
+module _ {ix : Index} {t : Tally} {w : Notes} {end n : ℕ} (c : CountedBelow ix t w end n) (inside : n < max_clauses) (long : length w.todo ≡ max_table) (x : ℕ)
     (is : x ≡ length (clause_of ix n)) where
   kept : (i : ℕ) → i < end → get_or (set w.todo end n) i 0 ≡ get_or w.todo i 0
   kept i h = get_or-set_other w.todo end i n 0 (λ q. omega arith)
@@ -69,10 +72,7 @@ module _ {ix : List ℕ} {t : Tally} {w : Notes} {end n : ℕ} (c : CountedBelow
     few = omega (arith, bit_le (ltb x 3), c.few);
   }
 
-pub todo_long : {wk : List ℕ} → Whole wk → length (notes_of wk).todo ≡ max_table
-todo_long {wk} h = simp (length-take, length-drop) (omega (arith, h.long))
-
-pub empty_dies : (ix : List ℕ) (g : ℕ) → g < clause_count ix → length (clause_of ix g) ≡ 0 → Died (formula_of ix) initial
+pub empty_dies : (ix : Index) (g : ℕ) → g < clause_count ix → length (clause_of ix g) ≡ 0 → Died (formula_of ix) initial
 empty_dies ix g h e = record {
   state = initial;
   count = 0;
@@ -80,11 +80,11 @@ empty_dies ix g h e = record {
   dies = record { clause = clause_of ix g; member = mem_formula ix g h; dead_end = inr (standing_empty (clause_of ix g) e) };
 }
 
-module _ {ix : List ℕ} (st : List ℕ) {w : Notes} {end : ℕ} (index : Indexed ix) (c : CountedBelow ix (tally_of st) w end (clause_count ix)) where
+module _ {ix : Index} (st : Tally) {w : Notes} {end : ℕ} (index : Indexed ix) (c : CountedBelow ix st w end (clause_count ix)) where
   clause_opens : (g : ℕ) → g < clause_count ix → Opens (clause_of ix g)
   clause_opens g h l m = (within_indexed index).low (clause_of ix g) l (mem_formula ix g h) m
 
-  exact : Exact ix (tally_of st).values (tally_of st).counts
+  exact : Exact ix st.values st.counts
   exact = record {
     long_values = c.opened.long_values;
     long_counts = c.opened.long_counts;
@@ -92,17 +92,16 @@ module _ {ix : List ℕ} (st : List ℕ) {w : Notes} {end : ℕ} (index : Indexe
     low = λ g h. omega (arith, c.counts g h, clause_length index g h);
   }
 
-  pub counted_ends : {wk : List ℕ} → Whole wk → notes_of wk ≡ with_blocks_end 0 (with_todo_end end w) → Fresh ix st wk
-  counted_ends {wk} whole is = record {
+  pub counted_ends : {wk : Notes} → wk ≡ with_blocks_end 0 (with_todo_end end w) → Fresh ix st wk
+  counted_ends {wk} is = record {
     initially = open_initial c.opened;
     sound = record {
       index = index;
       exact = exact;
       linked = c.opened.long_links;
       classes = open_classes c.opened;
-      whole = whole;
-      todo_room = omega (arith, ends, c.few, index.few, room_few index (tally_of st).values);
-      blocks_room = omega (arith, none, roots_few (tally_of st).values max_variables);
+      todo_room = omega (arith, ends, c.few, index.few, room_few index st.values);
+      blocks_room = omega (arith, none, roots_few st.values max_variables);
       todo_inside = λ i h. rw todo (c.inside i (omega (arith, ends)));
     };
     short = record {
@@ -114,14 +113,14 @@ module _ {ix : List ℕ} (st : List ℕ) {w : Notes} {end : ℕ} (index : Indexe
     };
   }
     where
-      ends : (notes_of wk).todo_end ≡ end
+      ends : wk.todo_end ≡ end
       ends = ap (λ (k : Notes). k.todo_end) is
 
-      none : (notes_of wk).blocks_end ≡ 0
+      none : wk.blocks_end ≡ 0
       none = ap (λ (k : Notes). k.blocks_end) is
 
-      todo : (notes_of wk).todo ≡ w.todo
+      todo : wk.todo ≡ w.todo
       todo = ap (λ (k : Notes). k.todo) is
 
-      noted : (g : ℕ) → g < clause_count ix → length (clause_of ix g) < 3 → (i : ℕ) × (0 ≤ i) × (i < (notes_of wk).todo_end) × (get_or (notes_of wk).todo i 0 ≡ g)
+      noted : (g : ℕ) → g < clause_count ix → length (clause_of ix g) < 3 → (i : ℕ) × (0 ≤ i) × (i < wk.todo_end) × (get_or wk.todo i 0 ≡ g)
       noted g h k = let i = c.noted g h k in (i.0, omega arith, omega (arith, ends, i.1), rw todo i.2)

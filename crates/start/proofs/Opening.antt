@@ -4,27 +4,19 @@ use mathlib.Core.List.{List, []}
 use Prim.Native.Nat.{ℕ, ◌+◌, ◌*◌, ◌/◌, ◌≤◌, ◌<◌}
 use native.Mathlib.Decide.{dec_lt}
 use native.Mathlib.Omega.{arith}
-use lib.ListN.{get_or, set, length, length-set, length-take, length-drop, get_or-eq_default}
+use lib.ListN.{get_or, set, length, length-set, get_or-eq_default}
 use lib.Seq.{get_or-set_same, get_or-set_other}
 use Rattle.general.specs.Bits.{bit_same}
 use Rattle.general.specs.Repeats.{times_nil, times_cons}
-use Rattle.literal.specs.Literal.{max_variables, variables}
+use Rattle.literal.specs.Literal.{max_variables, max_clauses, variables}
 use Rattle.theory.specs.State.{initial}
 use Rattle.state.specs.State.{state_of}
 use Rattle.state.proofs.Values.{state_of_initial}
-use Rattle.tally.specs.Tally.{Tally, tally_of, with_value, with_link, with_count, tally_size}
+use Rattle.tally.specs.Tally.{with_value, with_link, with_count}
 use Rattle.tally.specs.Ring.{Chain, Ring, Classes}
 use Rattle.tally.proofs.Turned.{inside_root}
 use Rattle.start.specs.Opening.{OpenBelow}
-
-pub open_begins : (st : List ℕ) → length st ≡ tally_size → OpenBelow (tally_of st) 0
-open_begins st h = record {
-  long_values = simp (length-take, length-drop) (omega arith);
-  long_links = simp (length-take, length-drop) (omega arith);
-  long_counts = simp (length-take, length-drop) (omega arith);
-  values = λ p b. absurd (omega arith);
-  links = λ p b. absurd (omega arith);
-}
+use Rattle.tally.specs.declared.Tally.{Tally}
 
 -- a list that has f at each index below n gets f n at n
 pub set_below : (l : List ℕ) (n x : ℕ) (f : ℕ → ℕ) → n < length l → x ≡ f n → ((p : ℕ) → p < n → get_or l p 0 ≡ f p) →
@@ -33,15 +25,6 @@ set_below l n x f h e before p b = elim (dec_lt p n) [
   | yes q ↦ get_or-set_other l n p x 0 (λ z. omega arith) ∙ before p q
   | no q ↦ let z : p ≡ n = omega arith in rw z (get_or-set_same l n x 0 h ∙ e)
 ]
-
-pub open_goes : {t : Tally} {n : ℕ} → n < variables → OpenBelow t n → OpenBelow (with_link n n (with_value n (2 * n) t)) (n + 1)
-open_goes {t} {n} h o = record {
-  long_values = length-set t.values n (2 * n) ∙ o.long_values;
-  long_links = length-set t.links n n ∙ o.long_links;
-  long_counts = o.long_counts;
-  values = set_below t.values n (2 * n) (λ p. 2 * p) (omega (arith, o.long_values)) refl o.values;
-  links = set_below t.links n n (λ p. p) (omega (arith, o.long_links)) refl o.links;
-}
 
 -- counts are written beside
 pub open_counted : {t : Tally} {n : ℕ} (g x : ℕ) → OpenBelow t n → OpenBelow (with_count g x t) n

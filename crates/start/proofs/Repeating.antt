@@ -1,11 +1,14 @@
 -- Occurrences of which each is in a later clause than the one before: a variable that stands twice in no clause.
-use mathlib.Core.Path.{◌≡◌, ap, sym, ◌∙◌}
+use mathlib.Core.Path.{◌≡◌, refl, ap, sym, ◌∙◌}
+use mathlib.Core.Bool.{true}
 use mathlib.Core.List.{List}
 use Prim.Native.Nat.{ℕ, zero, suc, ◌+◌, ◌-◌, ◌*◌, ◌/◌, ◌≤◌, ◌<◌}
 use native.Mathlib.Decide.{ℕ_discrete as dec_eq}
 use native.Mathlib.Omega.{arith}
-use borrow.Author.Tests.{eq-eqb, ne_eqb}
+use borrow.Author.Tests.{eq-eqb, ne_eqb, eqb-true}
 use lib.Dec.{eqb}
+use Rattle.std.specs.Prelude.{Option, None, Some, IfSome}
+use Rattle.std.specs.Option.{option_eq}
 use Rattle.general.specs.Booleans.{bit, bit_not}
 use Rattle.general.specs.Lists.{from}
 use Rattle.general.specs.Times.{times, times_snoc}
@@ -15,7 +18,8 @@ use Rattle.literal.proofs.Codes.{literal_at_code_of}
 use Rattle.theory.specs.Rules.{occurs}
 use Rattle.theory.proofs.Counts.{mentions_occurs}
 use Rattle.occurrences.specs.Index.{Indexed, clause_count, clause_of, first_at, occurrence_at, width}
-use Rattle.start.specs.Undoubling.{WrittenOnce, DoubledAt}
+use Rattle.start.specs.Undoubling.{WrittenOnce, DoubledAt, Doubled}
+use Rattle.occurrences.specs.declared.Index.{Index}
 
 module _ (f : ℕ → ℕ) (a : ℕ) where
   -- how many of the n occurrences from a on are in clause g
@@ -50,7 +54,7 @@ module _ (f : ℕ → ℕ) (a : ℕ) where
     below = λ g l. omega (arith, one_other n g (λ e. omega arith), r.below g (omega arith));
   }
 
-pub rising_once : {ix : List ℕ} {p next : ℕ} → Indexed ix → p ≤ max_variables → Rising (occurrence_at ix) (first_at ix p) (width ix p) next → WrittenOnce ix p
+pub rising_once : {ix : Index} {p next : ℕ} → Indexed ix → p ≤ max_variables → Rising (occurrence_at ix) (first_at ix p) (width ix p) next → WrittenOnce ix p
 rising_once {ix} {p} index h r g b =
     let e : 2 * p + 0 ≡ 2 * p = omega arith in
     let z : 2 * g + 0 ≡ 2 * g = omega arith in
@@ -75,9 +79,20 @@ times_two f x k (suc n) i a b e h = elim (dec_eq k i) [
   | no q ↦ omega (arith, times_two f x (suc k) n i (omega arith) (omega arith) e h)
 ]
 
-pub doubled_twice : {ix : List ℕ} {p j : ℕ} → Indexed ix → p ≤ max_variables → DoubledAt ix p j → (g k : ℕ) → g < clause_count ix → k < 2 → occurrence_at ix j ≡ 2 * g + k →
+pub doubled_twice : {ix : Index} {p j : ℕ} → Indexed ix → p ≤ max_variables → DoubledAt ix p j → (g k : ℕ) → g < clause_count ix → k < 2 → occurrence_at ix j ≡ 2 * g + k →
     2 ≤ occurs (literal_at (2 * p + k)) (clause_of ix g)
 doubled_twice {ix} {p} {j} index h d g k b l e =
     let z : j - 1 + 1 ≡ j = omega (arith, d.after) in
     rw (index.each p g k h b l) at (times_two (occurrence_at ix) (2 * g + k) (first_at ix p) (width ix p) (j - 1)
     (omega (arith, d.after)) (omega (arith, d.after, d.before)) (sym d.same ∙ e) (ap (occurrence_at ix) z ∙ e))
+
+-- an occurrence that is the same as the one before it
+pub doubled_found : (ix : Index) (p i : ℕ) (b : Option ℕ) (x : ℕ) → i < width ix p → x ≡ occurrence_at ix (first_at ix p + i) →
+    ((y : ℕ) → b ≡ Some y → (k : ℕ) × (suc k ≡ i) × (y ≡ occurrence_at ix (first_at ix p + k))) → option_eq eqb b (Some x) ≡ true → IfSome b (Doubled ix p)
+doubled_found ix p i None x h is w e = tt
+doubled_found ix p i (Some y) x h is w e =
+    let q = w y refl in
+    let j = first_at ix p + i in
+    let r : first_at ix p + q.0 ≡ j - 1 = omega (arith, q.1) in
+    let s : y ≡ x = eqb-true y x e in
+    (j, record { after = omega (arith, q.1); before = omega (arith, h); same = sym is ∙ sym s ∙ q.2 ∙ ap (occurrence_at ix) r }, s ∙ is)

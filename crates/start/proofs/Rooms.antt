@@ -10,13 +10,14 @@ use Rattle.general.specs.Bits.{bit_le}
 use Rattle.literal.specs.Literal.{max_variables, max_literals, variables}
 use Rattle.occurrences.specs.Index.{Indexed, first_at, width}
 use Rattle.tally.specs.Counts.{load, room, roots}
+use Rattle.occurrences.specs.declared.Index.{Index}
 
 pub roots_few : (v : List ℕ) (n : ℕ) → roots v n ≤ n
 unfolding roots
 roots_few v zero = omega arith
 roots_few v (suc n) = omega (arith, bit_le (eqb (get_or v (suc n) 0) (2 * suc n)), roots_few v n)
 
-module _ {ix : List ℕ} (index : Indexed ix) where
+module _ {ix : Index} (index : Indexed ix) where
   load_few : (v : List ℕ) (n : ℕ) → n ≤ max_variables + 1 → load (width ix) v n + first_at ix 0 ≤ first_at ix n
   unfolding load
   load_few v zero h = omega arith

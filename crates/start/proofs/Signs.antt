@@ -12,13 +12,15 @@ use Rattle.literal.proofs.Codes.{literal_at_code_of}
 use Rattle.theory.specs.Formula.{Clause}
 use Rattle.occurrences.specs.Index.{Indexed, clause_count, clause_of, formula_of, first_at, occurrence_at}
 use Rattle.occurrences.proofs.Formulas.{formula_mem}
-use Rattle.notes.specs.Notes.{Notes, notes_of, block_at, with_block, with_blocks_end, Whole, max_blocks}
-use Rattle.notes.proofs.Blocks.{blocks_long, block_there, block_kept}
+use Rattle.notes.specs.Notes.{block_at, with_block, with_blocks_end, max_blocks}
+use Rattle.notes.proofs.Blocks.{block_there, block_kept}
 use Rattle.gather.proofs.Placed.{literal_placed}
 use Rattle.start.specs.Signs.{Signed, BothSigns, signs_block, ListedBelow, Listing}
+use Rattle.occurrences.specs.declared.Index.{Index}
+use Rattle.notes.specs.declared.Notes.{Notes}
 
 -- two occurrences of different signs, and none
-module _ (ix : List ℕ) (p : ℕ) where
+module _ (ix : Index) (p : ℕ) where
   pub signs_differ : (i j : ℕ) → first_at ix p ≤ i → i < first_at ix (p + 1) → first_at ix p ≤ j → j < first_at ix (p + 1) →
       occurrence_at ix i % 2 ≢ occurrence_at ix j % 2 → BothSigns ix p
   signs_differ i j a b c d n = elim (dec_eq (occurrence_at ix i % 2) 0) [
@@ -29,7 +31,7 @@ module _ (ix : List ℕ) (p : ℕ) where
   pub signs_alike : (sign : ℕ) → ((k : ℕ) → first_at ix p ≤ k → k < first_at ix (p + 1) → occurrence_at ix k % 2 ≡ sign) → ¬ BothSigns ix p
   signs_alike sign same b = let i = b.plus in let j = b.minus in omega (arith, i.3, j.3, same i.0 i.1 i.2, same j.0 j.1 j.2)
 
-module _ {ix : List ℕ} (index : Indexed ix) where
+module _ {ix : Index} (index : Indexed ix) where
   -- a literal that is written occurs with its sign
   written_signed : (p g k : ℕ) → p ≤ max_variables → g < clause_count ix → k < 2 → Memᴰ (literal_at (2 * p + k)) (clause_of ix g) → Signed ix p k
   written_signed p g k h i b m = let j = literal_placed index p g k h i b m in (j.0, j.1, j.2, omega (arith, j.3))
@@ -49,14 +51,14 @@ module _ {ix : List ℕ} (index : Indexed ix) where
 
 -- the list -----------------------------------------------------------------------------------------------------------
 
-pub listed_begins : {ix : List ℕ} (w : Notes) → ListedBelow ix (with_blocks_end 0 w) 1
+pub listed_begins : {ix : Index} (w : Notes) → ListedBelow ix (with_blocks_end 0 w) 1
 listed_begins w = record {
   listed = λ p o h s. absurd (omega arith);
   inside = λ i h. absurd (omega arith);
   few = omega arith;
 }
 
-module _ {ix : List ℕ} (w : Notes) {end n : ℕ} (b : ListedBelow ix (with_blocks_end end w) n) where
+module _ {ix : Index} (w : Notes) {end n : ℕ} (b : ListedBelow ix (with_blocks_end end w) n) where
   -- one that has not both signs need not be listed
   pub listed_past : (¬ BothSigns ix n) → ListedBelow ix (with_blocks_end end w) (n + 1)
   listed_past unlike = record {
@@ -68,7 +70,7 @@ module _ {ix : List ℕ} (w : Notes) {end n : ℕ} (b : ListedBelow ix (with_blo
     few = omega (arith, b.few);
   }
 
-  listed_goes : n ≤ max_variables → length w.blocks ≡ 4 * max_blocks → ListedBelow ix (with_blocks_end (end + 1) (with_block end (signs_block n) w)) (n + 1)
+  listed_goes : n ≤ max_variables → length w.blocks ≡ max_blocks → ListedBelow ix (with_blocks_end (end + 1) (with_block end (signs_block n) w)) (n + 1)
   listed_goes low long = record {
     listed = λ p q h s. elim (dec_eq p n) [
       | yes e ↦ (end, omega arith, last ∙ ap signs_block (sym e))
@@ -88,26 +90,24 @@ module _ {ix : List ℕ} (w : Notes) {end n : ℕ} (b : ListedBelow ix (with_blo
       last = block_there w end (signs_block n) (omega (arith, b.few))
 
 -- no turn changes what is noted
-module _ {ix : List ℕ} where
-  pub listing_none : {wk : List ℕ} {end n : ℕ} → Whole wk → ListedBelow ix (with_blocks_end end (notes_of wk)) n → Listing ix wk wk end n
-  listing_none w b = record { whole = w; todo = refl; todo_end = refl; below = b }
+module _ {ix : Index} where
+  pub listing_none : {wk : Notes} {end n : ℕ} → ListedBelow ix (with_blocks_end end wk) n → Listing ix wk wk end n
+  listing_none b = record { todo = refl; todo_end = refl; below = b }
 
-  pub listing_one : {wk wk' : List ℕ} {end n : ℕ} → Whole wk → n ≤ max_variables → ListedBelow ix (with_blocks_end end (notes_of wk)) n → Whole wk' →
-      notes_of wk' ≡ with_block end (signs_block n) (notes_of wk) → Listing ix wk wk' (end + 1) (n + 1)
-  listing_one {wk} {end = end} {n = n} w h b w' e = record {
-    whole = w';
+  pub listing_one : {wk wk' : Notes} {end n : ℕ} → length wk.blocks ≡ max_blocks → n ≤ max_variables → ListedBelow ix (with_blocks_end end wk) n →
+      wk' ≡ with_block end (signs_block n) wk → Listing ix wk wk' (end + 1) (n + 1)
+  listing_one {wk} {end = end} {n = n} long h b e = record {
     todo = ap (λ (k : Notes). k.todo) e;
     todo_end = ap (λ (k : Notes). k.todo_end) e;
-    below = subst (λ (k : Notes). ListedBelow ix (with_blocks_end (end + 1) k) (n + 1)) (sym e) (listed_goes (notes_of wk) b h (blocks_long w));
+    below = subst (λ (k : Notes). ListedBelow ix (with_blocks_end (end + 1) k) (n + 1)) (sym e) (listed_goes wk b h long);
   }
 
-  pub listing_goes : {wk wk' wk'' : List ℕ} {end n more m : ℕ} → Listing ix wk wk' end n → Listing ix wk' wk'' more m → Listing ix wk wk'' more m
-  listing_goes a b = record { whole = b.whole; todo = b.todo ∙ a.todo; todo_end = b.todo_end ∙ a.todo_end; below = b.below }
+  pub listing_goes : {wk wk' wk'' : Notes} {end n more m : ℕ} → Listing ix wk wk' end n → Listing ix wk' wk'' more m → Listing ix wk wk'' more m
+  listing_goes a b = record { todo = b.todo ∙ a.todo; todo_end = b.todo_end ∙ a.todo_end; below = b.below }
 
-  pub listing_ends : {wk wk' wk'' : List ℕ} {end n : ℕ} → Listing ix wk wk' end n → Whole wk'' → notes_of wk'' ≡ with_blocks_end end (notes_of wk') →
-      Listing ix wk wk'' (notes_of wk'').blocks_end n
-  listing_ends {n = n} a w e = record {
-    whole = w;
+  pub listing_ends : {wk wk' wk'' : Notes} {end n : ℕ} → Listing ix wk wk' end n → wk'' ≡ with_blocks_end end wk' →
+      Listing ix wk wk'' wk''.blocks_end n
+  listing_ends {n = n} a e = record {
     todo = ap (λ (k : Notes). k.todo) e ∙ a.todo;
     todo_end = ap (λ (k : Notes). k.todo_end) e ∙ a.todo_end;
     below = subst (λ (k : Notes). ListedBelow ix k n) (sym e) a.below;

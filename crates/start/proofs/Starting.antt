@@ -12,10 +12,10 @@ use Rattle.theory.proofs.Propagation.{initial_well, steps_refine}
 use Rattle.theory.proofs.Paired.{Paired, Signs, paired_by, paired_kept, paired_signs}
 use Rattle.theory.proofs.Falls.{still, falls_steps, falls_opens, falls_adds}
 use Rattle.occurrences.specs.Index.{formula_of}
-use Rattle.tally.specs.Tally.{tally_of, state_in}
+use Rattle.tally.specs.Tally.{state_in}
 use Rattle.tally.specs.Block.{by_signs}
 use Rattle.notes.specs.declared.Block.{Block}
-use Rattle.notes.specs.Notes.{notes_of, Noted}
+use Rattle.notes.specs.Notes.{Noted}
 use Rattle.moves.specs.Sound.{Sound}
 use Rattle.moves.specs.Stepping.{Died}
 use Rattle.moves.specs.Listing.{ListsIn, Listed, SpansIn, Blocks}
@@ -30,8 +30,11 @@ use Rattle.start.proofs.Rooms.{roots_few}
 use Rattle.start.proofs.Undoubling.{undoubled_well, undoubled_all}
 use Rattle.start.proofs.Initial.{standing_initial}
 use Rattle.start.proofs.Signs.{signs_both}
+use Rattle.occurrences.specs.declared.Index.{Index}
+use Rattle.tally.specs.declared.Tally.{Tally}
+use Rattle.notes.specs.declared.Notes.{Notes}
 
-module _ {ix st wk : List ℕ} (fresh : Fresh ix st wk) where
+module _ {ix : Index} {st : Tally} {wk : Notes} (fresh : Fresh ix st wk) where
   pub fresh_well : WellFormed max_variables (state_in st)
   fresh_well = rw fresh.initially (initial_well max_variables)
 
@@ -41,12 +44,12 @@ module _ {ix st wk : List ℕ} (fresh : Fresh ix st wk) where
   pub fresh_died : Died (formula_of ix) (state_in st) → Died (formula_of ix) initial
   fresh_died d = rw fresh.initially at d
 
-  module _ {st' wk' wk'' : List ℕ} (b : UndoubledBelow ix st wk st' wk' (max_variables + 1)) (l : Listing ix wk' wk'' (notes_of wk'').blocks_end (max_variables + 1)) where
+  module _ {st' : Tally} {wk' wk'' : Notes} (b : UndoubledBelow ix st wk st' wk' (max_variables + 1)) (l : Listing ix wk' wk'' wk''.blocks_end (max_variables + 1)) where
     within : Within max_variables (formula_of ix)
     within = within_indexed fresh.sound.index
 
     -- notes are read the same once blocks are listed
-    noted_listed : {g : ℕ} → Noted (notes_of wk') 0 g → Noted (notes_of wk'') 0 g
+    noted_listed : {g : ℕ} → Noted wk' 0 g → Noted wk'' 0 g
     noted_listed n = (n.0, n.1, omega (arith, n.2, l.todo_end), rw l.todo n.3)
 
     short : Short ix st' wk'' 0 0
@@ -66,9 +69,8 @@ module _ {ix st wk : List ℕ} (fresh : Fresh ix st wk) where
           exact = s.exact;
           linked = s.linked;
           classes = s.classes;
-          whole = l.whole;
           todo_room = omega (arith, s.todo_room, l.todo_end);
-          blocks_room = omega (arith, l.below.few, roots_few (tally_of st').values max_variables);
+          blocks_room = omega (arith, l.below.few, roots_few st'.values max_variables);
           todo_inside = λ i h. rw l.todo (s.todo_inside i (omega (arith, l.todo_end)));
         }
 

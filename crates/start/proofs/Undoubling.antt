@@ -24,7 +24,7 @@ use Rattle.state.proofs.Values.{state_of_inside}
 use Rattle.occurrences.specs.Index.{clause_count, clause_of, formula_of, occurrence_at}
 use Rattle.occurrences.proofs.Ends.{occurrence_inside}
 use Rattle.occurrences.proofs.Formulas.{formula_mem}
-use Rattle.tally.specs.Tally.{tally_of, state_in, value_in}
+use Rattle.tally.specs.Tally.{state_in, value_in}
 use Rattle.moves.specs.Sound.{Sound}
 use Rattle.moves.specs.Moving.{Went}
 use Rattle.moves.specs.Deciding.{Decidable, Decided}
@@ -35,12 +35,15 @@ use Rattle.undouble.proofs.Undoubling.{undouble_decidable, undoubled_decided}
 use Rattle.start.specs.Undoubling.{Undoubling, WrittenOnce, DoubledAt, UndoubledBelow}
 use Rattle.start.proofs.Initial.{mentions_initial}
 use Rattle.start.proofs.Repeating.{doubled_twice}
+use Rattle.occurrences.specs.declared.Index.{Index}
+use Rattle.tally.specs.declared.Tally.{Tally}
+use Rattle.notes.specs.declared.Notes.{Notes}
 
-undoubling_well : {ix st wk : List ℕ} → Undoubling ix st wk → WellFormed max_variables (state_in st)
+undoubling_well : {ix : Index} {st : Tally} {wk : Notes} → Undoubling ix st wk → WellFormed max_variables (state_in st)
 undoubling_well u = falls_well (within_indexed u.sound.index) (initial_well max_variables) u.path
 
 -- a variable that is no open root stands nowhere
-closed_once : {ix st wk : List ℕ} → Undoubling ix st wk → (p : ℕ) → p ≤ max_variables → value_in st p ≢ 2 * p → OnceIn ix st p
+closed_once : {ix : Index} {st : Tally} {wk : Notes} → Undoubling ix st wk → (p : ℕ) → p ≤ max_variables → value_in st p ≢ 2 * p → OnceIn ix st p
 closed_once {ix} {st} u p h n g i w = elim (dec_lt 0 (mentions p (standing (state_in st) (clause_of ix g)))) [
   | yes k ↦ absurd (n (root (mentions_holds p (standing (state_in st) (clause_of ix g)) k)))
   | no k ↦ omega arith
@@ -49,20 +52,20 @@ closed_once {ix} {st} u p h n g i w = elim (dec_lt 0 (mentions p (standing (stat
     root : Holds p (standing (state_in st) (clause_of ix g)) → value_in st p ≡ 2 * p
     root (l, m, e) =
         let s : state_in st p ≡ Pos p = rw e at (fixed_pos (state_in st) l (standing_fixed (within_indexed u.sound.index) (undoubling_well u) (clause_of ix g) l m)) in
-        sym (code_of_literal_at (value_in st p)) ∙ ap code_of (sym (state_of_inside (tally_of st).values p h) ∙ s)
+        sym (code_of_literal_at (value_in st p)) ∙ ap code_of (sym (state_of_inside st.values p h) ∙ s)
 
-pub closed_doubles : {ix st wk : List ℕ} → Undoubling ix st wk → (p : ℕ) → p ≤ max_variables → value_in st p ≢ 2 * p → DoublesOf ix st wk p st wk false
+pub closed_doubles : {ix : Index} {st : Tally} {wk : Notes} → Undoubling ix st wk → (p : ℕ) → p ≤ max_variables → value_in st p ≢ 2 * p → DoublesOf ix st wk p st wk false
 closed_doubles u p h n = (still, went_refl u.sound, closed_once u p h n)
 
 -- one that is written at most once in each clause stands at most once
-pub written_doubles : {ix st wk : List ℕ} → Undoubling ix st wk → (p : ℕ) → 0 < p → WrittenOnce ix p → DoublesOf ix st wk p st wk false
+pub written_doubles : {ix : Index} {st : Tally} {wk : Notes} → Undoubling ix st wk → (p : ℕ) → 0 < p → WrittenOnce ix p → DoublesOf ix st wk p st wk false
 written_doubles {ix} u p o h =
     (still, went_refl u.sound, λ g b w. omega (arith, falls_mentions u.path (clause_of ix g) p o, mentions_initial p (clause_of ix g), h g b))
 
 -- one of which a literal is written twice in a clause: that literal becomes false, and the variable stands nowhere
-module _ {ix st wk : List ℕ} (u : Undoubling ix st wk) (r : ℕ) (positive : 0 < r) (inside : r ≤ max_variables) (root : value_in st r ≡ 2 * r) where
+module _ {ix : Index} {st : Tally} {wk : Notes} (u : Undoubling ix st wk) (r : ℕ) (positive : 0 < r) (inside : r ≤ max_variables) (root : value_in st r ≡ 2 * r) where
   open_pos : Fixed (state_in st) (Pos r)
-  open_pos = state_of_inside (tally_of st).values r inside ∙ ap literal_at root ∙ literal_at_code_of (Pos r)
+  open_pos = state_of_inside st.values r inside ∙ ap literal_at root ∙ literal_at_code_of (Pos r)
 
   open_literal : (k : ℕ) → k < 2 → Fixed (state_in st) (literal_at (2 * r + k))
   open_literal k h = elim (dec_eq k 0) [
@@ -109,24 +112,24 @@ module _ {ix st wk : List ℕ} (u : Undoubling ix st wk) (r : ℕ) (positive : 0
     gone : (h : ℕ) → mentions r (standing (assign (literal_at x) FALSE (state_in st)) (clause_of ix h)) ≡ 0
     gone h = rw (var_at x ∙ of_r) at (mentions_gone (state_in st) (literal_at x) FALSE opened (λ i. omega (arith, opened)) (clause_of ix h))
 
-    pub doubled_decided : (st' wk' : List ℕ) (b : Bool) → Decided ix st wk x st' wk' b → DoublesOf ix st wk r st' wk' b
+    pub doubled_decided : (st' : Tally) (wk' : Notes) (b : Bool) → Decided ix st wk x st' wk' b → DoublesOf ix st wk r st' wk' b
     doubled_decided st' wk' true e = (undoubled_decided doubling x of_r twice st' wk' true e).fell
     doubled_decided st' wk' false e =
         let f = (undoubled_decided doubling x of_r twice st' wk' false e).fell in
         (f.0, f.1.went, λ h i w. rw e.0 (omega (arith, gone h)))
 
-pub undoubled_begins : {ix st wk : List ℕ} → Sound ix st wk → UndoubledBelow ix st wk st wk 1
+pub undoubled_begins : {ix : Index} {st : Tally} {wk : Notes} → Sound ix st wk → UndoubledBelow ix st wk st wk 1
 undoubled_begins s = record { path = still; went = went_refl s; distinct = record { by = λ c m w p o h. o } }
 
-module _ {ix st wk : List ℕ} (u : Undoubling ix st wk) where
-  module _ {st' wk' : List ℕ} {n : ℕ} (b : UndoubledBelow ix st wk st' wk' n) where
+module _ {ix : Index} {st : Tally} {wk : Notes} (u : Undoubling ix st wk) where
+  module _ {st' : Tally} {wk' : Notes} {n : ℕ} (b : UndoubledBelow ix st wk st' wk' n) where
     pub undoubled_on : Undoubling ix st' wk'
     undoubled_on = record { sound = b.went.sound; path = falls_trans u.path b.path }
 
     pub undoubled_well : WellFormed max_variables (state_in st')
     undoubled_well = undoubling_well undoubled_on
 
-    pub undoubled_goes : {st'' wk'' : List ℕ} → Falls (formula_of ix) (state_in st') (state_in st'') → Went ix st' wk' st'' wk'' → OnceIn ix st'' n →
+    pub undoubled_goes : {st'' : Tally} {wk'' : Notes} → Falls (formula_of ix) (state_in st') (state_in st'') → Went ix st' wk' st'' wk'' → OnceIn ix st'' n →
         UndoubledBelow ix st wk st'' wk'' (n + 1)
     undoubled_goes {st''} r w once = record {
       path = falls_trans b.path r;

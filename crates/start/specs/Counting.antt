@@ -3,15 +3,17 @@ use Rattle.std.specs.Prelude.{◌≡◌, Bool, true, false, List, ℕ, ◌≤◌
 use Rattle.literal.specs.Literal.{variables}
 use Rattle.theory.specs.State.{initial}
 use Rattle.occurrences.specs.Index.{clause_of, formula_of}
-use Rattle.tally.specs.Tally.{Tally, state_in}
-use Rattle.notes.specs.Notes.{Notes, Whole}
+use Rattle.tally.specs.Tally.{state_in}
 use Rattle.moves.specs.Sound.{Sound}
 use Rattle.moves.specs.Stepping.{Died}
 use Rattle.engine.specs.Short.{Short}
 use Rattle.start.specs.Opening.{OpenBelow}
+use Rattle.occurrences.specs.declared.Index.{Index}
+use Rattle.tally.specs.declared.Tally.{Tally}
+use Rattle.notes.specs.declared.Notes.{Notes}
 
 -- the clauses below n: none is empty, and those with two literals or fewer are the first `end` noted ones
-pub record CountedBelow (ix : List ℕ) (t : Tally) (w : Notes) (end n : ℕ) : Type 0 where
+pub record CountedBelow (ix : Index) (t : Tally) (w : Notes) (end n : ℕ) : Type 0 where
   pub opened : OpenBelow t variables
   pub counts : (g : ℕ) → g < n → get_or t.counts g 0 ≡ length (clause_of ix g)
   pub never : (g : ℕ) → g < n → 0 < length (clause_of ix g)
@@ -20,12 +22,12 @@ pub record CountedBelow (ix : List ℕ) (t : Tally) (w : Notes) (end n : ℕ) : 
   pub few : end ≤ n
 
 -- no step was made, and no block is listed
-pub record Fresh (ix st wk : List ℕ) : Type 0 where
+pub record Fresh (ix : Index) (st : Tally) (wk : Notes) : Type 0 where
   pub initially : state_in st ≡ initial
   pub sound : Sound ix st wk
   pub short : Short ix st wk 0 0
 
 -- an empty clause is a dead end (true)
-abbrev pub CountsOf : (ix st' wk' : List ℕ) → Bool → Type 0
-CountsOf ix st' wk' true = Died (formula_of ix) initial × Whole wk'
+abbrev pub CountsOf : (ix : Index) (st' : Tally) (wk' : Notes) → Bool → Type 0
+CountsOf ix st' wk' true = Died (formula_of ix) initial
 CountsOf ix st' wk' false = Fresh ix st' wk'

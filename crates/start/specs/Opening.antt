@@ -1,9 +1,9 @@
 -- Every variable is open and alone in its class.
 use Rattle.std.specs.Prelude.{◌≡◌, ℕ, ◌*◌, ◌<◌, get_or, length}
 use Rattle.literal.specs.Literal.{variables, max_clauses}
-use Rattle.tally.specs.Tally.{Tally}
+use Rattle.tally.specs.declared.Tally.{Tally}
 
--- the variables below n, in an array whose parts are whole
+-- the variables below n
 pub record OpenBelow (t : Tally) (n : ℕ) : Type 0 where
   pub long_values : length t.values ≡ variables
   pub long_links : length t.links ≡ variables

@@ -1,18 +1,17 @@
 // Standard input and output of the programs, with a line on standard error where one of them fails.
 #![tactic(auto)]
 
-ghost use Rattle.std.specs.Prelude.{◌≤◌, length};
+ghost use Rattle.std.specs.Prelude.{IfOk, IfErr};
 ghost use Rattle.io.specs.Counts.{IsPrefixLen};
 
 use std::env::{Env, FillError};
 use std::io;
 use std::io::{Read, Write};
 
-// What was read: so many bytes, and whether reading failed.
+// A read failed; so many bytes stood before it.
 #[derive(Clone, Copy)]
-pub struct Input {
+pub struct ReadFailed {
     pub length: usize,
-    pub failed: bool,
 }
 
 // What failed, and the system's reason without its number; with it where there is no memory to cut it off.
@@ -27,45 +26,23 @@ fn explain(rt: &HostRuntime, what: &str, error: &io::Error) -> io::Result<()> {
     }
 }
 
-// One read; no bytes at the end of the input, and where it fails, which is told.
-fn read_some(rt: &HostRuntime, buf: &mut [u8]) -> Input
-    ensures { result.length ≤ length buf.old }
+// Standard input: reads until the buffer is full, the input ends or a read fails, with a line that says so.
+pub fn read_input(rt: &HostRuntime, buf: &mut [u8]) -> Result<usize, ReadFailed>
+    ensures ok { IfOk result (λ n. IsPrefixLen n buf.new) }
+    ensures err { IfErr result (λ e. IsPrefixLen e.length buf.new) }
 {
-    match rt.stdin().read(buf) {
-        Ok(length) => Input {
-            length,
-            failed: false,
-        },
-        Err(error) => {
-            let _ = explain(rt, "can't read standard input", &error);
-            Input {
-                length: 0,
-                failed: true,
+    let mut length = 0;
+    while length < buf.len() {
+        match rt.stdin().read(&mut buf[length..]) {
+            Ok(0) => break,
+            Ok(count) => length += count,
+            Err(error) => {
+                let _ = explain(rt, "can't read standard input", &error);
+                return Err(ReadFailed { length });
             }
         }
     }
-}
-
-// Standard input: reads until the buffer is full, the input ends or a read fails, with a line that says so.
-pub fn read_input(rt: &HostRuntime, buf: &mut [u8]) -> Input
-    ensures { IsPrefixLen result.length buf.new }
-{
-    let mut done = 0;
-    let mut end = buf.len();
-    let mut failed = false;
-    while done < end {
-        let part = read_some(rt, &mut buf[done..]);
-        if part.length == 0 {
-            end = done;
-            failed = part.failed;
-        } else {
-            done += part.length;
-        }
-    }
-    Input {
-        length: done,
-        failed,
-    }
+    Ok(length)
 }
 
 // To standard output, or a line that says that it can't be written.

@@ -1,7 +1,8 @@
 -- The table of a formula within the limits is accepted by the check of tables; so is the table of every strip that is read.
+use Rattle.receipt.specs.Answers.{reading}
 use mathlib.Core.Path.{◌≡◌, refl, ap}
 use mathlib.Core.Bool.{Bool, false, not}
-use mathlib.Core.Option.{none}
+use Rattle.std.specs.Prelude.{None}
 use mathlib.Core.List.{List, [], ◌∷◌, ◌++◌, map, Memᴰ}
 use Prim.Native.Nat.{ℕ, zero, suc, ◌+◌, ◌<◌, ◌≤◌}
 use native.Mathlib.Omega.{arith}
@@ -13,7 +14,6 @@ use Rattle.general.specs.Search.{first_place}
 use Rattle.literal.specs.declared.Literal.{Literal}
 use Rattle.literal.specs.declared.Literal.TheVariants.{Pos, Neg}
 use Rattle.literal.specs.Literal.{var, entry_of, max_variables, max_clauses, max_literals}
-use Rattle.receipt.specs.declared.Reading.TheVariants.{Read}
 use Rattle.theory.specs.Formula.{Clause, Formula}
 use Rattle.theory.specs.Table.{closes, zeros, nonzeros, ends_open, is_unknown, table_unknown, check, Accepted}
 use Rattle.theory.specs.Strip.{nothing_read, read_strip}
@@ -34,7 +34,7 @@ record Counted (n : ℕ) (b : Bool) (t : List ℤ) (c l : ℕ) : Type 0 where
   pub clauses : zeros t ≡ c
   pub literals : nonzeros t ≡ l
   pub closed : ends_open b t ≡ false
-  pub known : (i : ℕ) → first_place (is_unknown n) i t ≡ none
+  pub known : (i : ℕ) → first_place (is_unknown n) i t ≡ None
 
 module _ (n : ℕ) where
   row : (t : List ℤ) (k j : ℕ) → Counted n false t k j → (b : Bool) (c : Clause) → ((l : Literal) → Memᴰ l c → (0 < var l) × (var l ≤ n)) →
@@ -74,9 +74,9 @@ module _ (n : ℕ) where
       ) (ap (table_unknown (table_of f)) (a.known 0))
 
 -- every operation accepts the table that was read
-pub read_accepted : (s : List ℕ) (room n u : ℕ) → (read_strip s room).reading ≡ Read n u → Accepted n (read_strip s room).table
+pub read_accepted : (s : List ℕ) (room n u : ℕ) → (read_strip s room).reading ≡ reading n u → Accepted n (read_strip s room).table
 read_accepted s room n u e =
-    let a : Ended s room 0 nothing_read [] (Read n u) (read_strip s room).table = rw e at (answered s room) in
+    let a : Ended s room 0 nothing_read [] (reading n u) (read_strip s room).table = rw e at (answered s room) in
     let l = a.3 in
     let b = l.allows in
     rw l.table (formula_accepted n (groups l.items) b.variables (omega (arith, b.clauses)) (omega (arith, b.literals)) b.known)

@@ -1,4 +1,5 @@
 -- A3 beside document 01: a strip reads as it did before, but where the end mark stands before a placement was named.
+use Rattle.receipt.specs.declared.Fault.{Fault}
 use mathlib.Core.Path.{◌≡◌, refl, ap, sym, ◌∙◌}
 use mathlib.Core.Bool.{Bool, true, false, cond}
 use mathlib.Core.Logic.{◌≢◌}
@@ -10,17 +11,18 @@ use lib.IntN.{ℤ}
 use lib.ListN.{length}
 use Rattle.general.specs.Booleans.{true_not_false}
 use Rattle.receipt.specs.declared.Fault.TheVariants.{StripTooLong}
-use Rattle.receipt.specs.declared.Reading.{Reading}
-use Rattle.receipt.specs.declared.Reading.TheVariants.{Read}
+use Rattle.std.specs.Prelude.{Result, Ok}
+use Rattle.receipt.specs.declared.Read.{Read}
+use Rattle.receipt.specs.declared.Refusal.{Refusal}
 use Rattle.receipt.specs.Receipt.{refusal}
-use Rattle.receipt.specs.Answers.{reading_receipt, read_variables}
+use Rattle.receipt.specs.Answers.{reading_receipt, read_variables, reading}
 use Rattle.theory.specs.declared.Mark.{Mark}
 use Rattle.theory.specs.declared.Mark.TheVariants.{Placements, Chapter, Opens, Taken, LeftOut, Closes, Ends}
 use Rattle.theory.specs.declared.Turn.TheVariants.{After}
+use Rattle.std.specs.Prelude.{Err}
 use Rattle.theory.specs.declared.Command.{Command}
-use Rattle.theory.specs.declared.Command.TheVariants as command
-use Rattle.theory.specs.declared.Progress.{Progress}
 use Rattle.theory.specs.declared.Obeyed.{Obeyed}
+use Rattle.theory.specs.declared.Progress.{Progress}
 use Rattle.theory.specs.Mentions.{mentions_all, Mentioned}
 use Rattle.theory.specs.Strip.{turn_of, same, progress, nothing_read, ended, obey, Decoding, not_read, onward, follow, finish, read_from, command_at, max_strip, read_by, read_strip, free, read_freely}
 use Rattle.reader.proofs.Commands.{Says, command_says}
@@ -31,7 +33,7 @@ pub record AsBefore (old new : Decoding) : Type 0 where
   -- they are one, but where today's is 26
   pub others : (reading_receipt new.reading).number ≢ 26 → new ≡ old
   -- and where document 01's is read and names every placement
-  pub passes : (n u : ℕ) → old.reading ≡ Read n u → Mentioned n old.table → new ≡ old
+  pub passes : (n u : ℕ) → old.reading ≡ reading n u → Mentioned n old.table → new ≡ old
 
 one_as_before : (d : Decoding) → AsBefore d d
 one_as_before d = record { others = λ _. refl; passes = λ n u e w. refl }
@@ -48,19 +50,19 @@ none_after Ends = refl
 module _ (s : List ℕ) (room : ℕ) where
   -- after the end mark nothing more is read
   abbrev Finished : Progress → List ℤ → Decoding → Type 0
-  Finished p t d = (n u : ℕ) → d.reading ≡ Read n u → (n ≡ p.variables) × (d.table ≡ t)
+  Finished p t d = (n u : ℕ) → d.reading ≡ reading n u → (n ≡ p.variables) × (d.table ≡ t)
 
   not_finished : (p : Progress) (t : List ℤ) (d : Decoding) → (reading_receipt d.reading).number ≢ 16 → Finished p t d
-  not_finished p t d h n u e = absurd (h (ap (λ (r : Reading). (reading_receipt r).number) e))
+  not_finished p t d h n u e = absurd (h (ap (λ (r : Result Read Refusal). (reading_receipt r).number) e))
 
   after_end : (k i : ℕ) (p : Progress) (t : List ℤ) → p.turn ≡ After → Finished p t (read_from free s room k i p t)
   unfolding read_from
   after_end zero i p t a = not_finished p t _ (λ z. omega arith)
   after_end (suc k) i p t a = go (ltb i (length s))
     where
-      followed : (c : Command) → Says s i p.turn c → Finished p t (follow free s room (read_from free s room k) i p t c)
-      followed (command.Command m v next) c = absurd (true_not_false (sym (ap (same After) (sym a ∙ c.turn))) (none_after m))
-      followed (command.Refused f) c = not_finished p t (not_read f) (λ z. omega (arith, c.1))
+      followed : (c : Result Command Refusal) → Says s i p.turn c → Finished p t (follow free s room (read_from free s room k) i p t c)
+      followed (Ok found) c = absurd (true_not_false (sym (ap (same After) (sym a ∙ c.turn))) (none_after found.mark))
+      followed (Err f) c = not_finished p t (not_read f) (λ z. omega (arith, c.1))
 
       go : (b : Bool) → Finished p t (cond b (follow free s room (read_from free s room k) i p t (command_at s i p.turn)) (finish s p t))
       go true = followed (command_at s i p.turn) (command_says s i p.turn)
@@ -68,7 +70,7 @@ module _ (s : List ℕ) (room : ℕ) where
 
   -- command by command
   module _ (k i next : ℕ) (t : List ℤ) (ih : (q : Progress) (t' : List ℤ) → AsBefore (read_from free s room k next q t') (read_from mentions_all s room k next q t')) where
-    onward_as_before : (o : Obeyed) → AsBefore (onward room (read_from free s room k next) i t o) (onward room (read_from mentions_all s room k next) i t o)
+    onward_as_before : (o : Result Obeyed Fault) → AsBefore (onward room (read_from free s room k next) i t o) (onward room (read_from mentions_all s room k next) i t o)
     onward_as_before = onward_related AsBefore one_as_before room i t (read_from free s room k next) (read_from mentions_all s room k next) ih
 
     -- the end mark: 26 where a placement is not named, and then document 01 reads a table that doesn't name it
@@ -101,11 +103,11 @@ module _ (s : List ℕ) (room : ℕ) where
   from_as_before zero i p t = one_as_before _
   from_as_before (suc k) i p t = go (from_as_before k) (ltb i (length s)) (command_at s i p.turn)
     where
-      go : ((j : ℕ) (q : Progress) (t' : List ℤ) → AsBefore (read_from free s room k j q t') (read_from mentions_all s room k j q t')) → (b : Bool) (c : Command) →
+      go : ((j : ℕ) (q : Progress) (t' : List ℤ) → AsBefore (read_from free s room k j q t') (read_from mentions_all s room k j q t')) → (b : Bool) (c : Result Command Refusal) →
           AsBefore (cond b (follow free s room (read_from free s room k) i p t c) (finish s p t))
           (cond b (follow mentions_all s room (read_from mentions_all s room k) i p t c) (finish s p t))
-      go ih true (command.Command m v next) = obeyed_as_before k i next t (ih next) p v m
-      go ih true (command.Refused f) = one_as_before _
+      go ih true (Ok found) = obeyed_as_before k i found.next t (ih found.next) p found.operand found.mark
+      go ih true (Err f) = one_as_before _
       go ih false c = one_as_before _
 
   -- the whole strip

@@ -1,5 +1,6 @@
 -- What was read of a strip before an index, by its grammar; so a strip that is refused with 5 names the group that is open there (A2), and one that is refused with 26
 -- doesn't name every placement up to its end mark (A3).
+use Rattle.receipt.specs.declared.Fault.{Fault}
 use mathlib.Core.Path.{◌≡◌, refl, ap, sym, subst, ◌∙◌}
 use mathlib.Core.Bool.{true, false, ◌||◌}
 use mathlib.Core.List.Memᴰ
@@ -22,8 +23,8 @@ use Rattle.theory.specs.declared.Mark.TheVariants.{Placements, Chapter, Opens, T
 use Rattle.theory.specs.declared.Turn.{Turn}
 use Rattle.theory.specs.declared.Turn.TheVariants.{Start, Outside, Inside, After}
 use Rattle.theory.specs.declared.Progress.{Progress}
+use Rattle.std.specs.Prelude.{Result, Err, Ok}
 use Rattle.theory.specs.declared.Obeyed.{Obeyed}
-use Rattle.theory.specs.declared.Obeyed.TheVariants.{Goes, Refused}
 use Rattle.theory.specs.Formula.{Clause, Formula}
 use Rattle.theory.specs.Mentions.{mentions_all}
 use Rattle.theory.specs.Strip.{turn_of, same, progress, nothing_read, entered, obey, max_strip}
@@ -100,9 +101,9 @@ module _ (s : List ℕ) where
 
 module _ (s : List ℕ) (room : ℕ) where
   -- what follows of a command from i to next that is obeyed, and of one that is refused with 5 or 26
-  abbrev pub Follows : ℕ → ℕ → List ℤ → Obeyed → Type 0
-  Follows i next t (Goes q e) = Behind s next q.turn q (with t e)
-  Follows i next t (Refused why) = (number_of why ≡ 5 → UnknownInStrip s (named_clause why).0 i) × (number_of why ≡ 26 → UnmentionedInStrip s room i)
+  abbrev pub Follows : ℕ → ℕ → List ℤ → Result Obeyed Fault → Type 0
+  Follows i next t (Ok o) = Behind s next o.progress.turn o.progress (with t o.stored)
+  Follows i next t (Err why) = (number_of why ≡ 5 → UnknownInStrip s (named_clause why).0 i) × (number_of why ≡ 26 → UnmentionedInStrip s room i)
 
   module _ (short : length s ≤ max_strip) (i next : ℕ) (long : next ≤ length s) where
     -- what was read with the command, and what is ahead of it

@@ -1,4 +1,5 @@
 -- A strip of the grammar, within document 01's limits and with room for its table, is read as that table where it names every placement, and otherwise refused at its end mark.
+use Rattle.receipt.specs.Answers.{reading}
 use mathlib.Core.Path.{◌≡◌, refl, ap, sym, subst, ◌∙◌}
 use mathlib.Core.Bool.{Bool, true, false, cond}
 use mathlib.Core.List.Memᴰ
@@ -14,20 +15,16 @@ use Rattle.literal.specs.declared.Literal.{Literal}
 use Rattle.literal.specs.declared.Literal.TheVariants.{Pos, Neg}
 use Rattle.literal.specs.Literal.{var, entry_of, max_variables, max_clauses, max_literals, max_table}
 use Rattle.receipt.specs.declared.Fault.TheVariants.{UnmentionedVariable}
-use Rattle.receipt.specs.declared.Reading.TheVariants.{Read}
 use Rattle.receipt.specs.Receipt.{refusal}
 use Rattle.theory.specs.declared.Mark.{Mark}
 use Rattle.theory.specs.declared.Mark.TheVariants.{Placements, Chapter, Opens, Taken, LeftOut, Closes, Ends}
 use Rattle.theory.specs.declared.Turn.{Turn}
 use Rattle.theory.specs.declared.Turn.TheVariants.{Start, Outside, Inside, After}
-use Rattle.theory.specs.declared.Command.TheVariants as command
+use Rattle.std.specs.Prelude.{Option, None, Some}
 use Rattle.theory.specs.declared.Progress.{Progress}
-use Rattle.theory.specs.declared.Stored.{Stored}
-use Rattle.theory.specs.declared.Stored.TheVariants.{Nothing, Element}
-use Rattle.theory.specs.declared.Obeyed.TheVariants.{Goes}
 use Rattle.theory.specs.Formula.{Clause, Formula}
 use Rattle.theory.specs.Mentions.{mentions_all, Mentioned}
-use Rattle.theory.specs.Strip.{turn_of, same, operand_bytes, operand_at, command_at, progress, entered, nothing_read, obey, Decoding, not_read, storing, read_from, max_strip, read_by, read_strip}
+use Rattle.theory.specs.Strip.{turn_of, same, operand_bytes, operand_at, command_at, progress, entered, nothing_read, obey, Decoding, not_read, storing, read_from, max_strip, read_by, read_strip, commands, obeyed}
 use Rattle.theory.specs.Encoding.{Item, chapter, group, command_bytes, entry_bytes, item_bytes, groups, table_of, entries, StripLimits, StripWithin, Bytes}
 use Rattle.theory.proofs.Tables.{InRange}
 use Rattle.reader.proofs.Commands.{bytes_long, bytes_rest, bytes_command, word_at_lem}
@@ -42,7 +39,7 @@ rest_range n l c f h d k md mk = ⊎_elim
 
 -- what is answered for a strip of n placements and the table T; its end mark is its last byte
 abbrev pub judged : List ℕ → ℕ → List ℤ → Decoding
-judged s n T = cond (mentions_all n T) (record { reading = Read n (length T); table = T }) (not_read (refusal UnmentionedVariable (length s - 1)))
+judged s n T = cond (mentions_all n T) (record { reading = reading n (length T); table = T }) (not_read (refusal UnmentionedVariable (length s - 1)))
 
 module _ (s : List ℕ) (room : ℕ) (b : Bytes s) (n : ℕ) (T : List ℤ) (fits : length T ≤ room) where
   abbrev answer : Decoding
@@ -55,20 +52,20 @@ module _ (s : List ℕ) (room : ℕ) (b : Bytes s) (n : ℕ) (T : List ℤ) (fit
   before_end : (u : Turn) → same u After ≡ false → AfterEnd u
   before_end u e z = absurd (true_not_false z e)
 
-  stored_fits : (go : List ℤ → Decoding) (i : ℕ) (t : List ℤ) (x : Stored) → length (with t x) ≤ room → storing room go i t x ≡ go (with t x)
-  stored_fits go i t Nothing h = refl
-  stored_fits go i t (Element x) h = rw (lt-ltb (length t) room (omega (arith, length-append t (x ∷ []))))
+  stored_fits : (go : List ℤ → Decoding) (i : ℕ) (t : List ℤ) (x : Option ℤ) → length (with t x) ≤ room → storing room go i t x ≡ go (with t x)
+  stored_fits go i t None h = refl
+  stored_fits go i t (Some x) h = rw (lt-ltb (length t) room (omega (arith, length-append t (x ∷ []))))
 
   module _ (k i : ℕ) (p : Progress) (t : List ℤ) (here : i ≤ length s) (enough : length s < i + suc k)
       (ih : (j : ℕ) (q : Progress) (t' : List ℤ) → j ≤ length s → length s < j + k → Left s j q.turn q t' n T → AfterEnd q.turn → read_from mentions_all s room k j q t' ≡ answer) where
     -- a command, and the strip after it
-    on : (m : Mark) (v : ℕ) (rest : List ℕ) → drop i s ≡ command_bytes m v ++ rest → p.turn ≡ turn_of m → (q : Progress) (x : Stored) →
-        obey p (mentions_all p.variables t) (operand_at s i (operand_bytes m)) m ≡ Goes q x → Left s (i + 1 + operand_bytes m) q.turn q (with t x) n T →
+    on : (m : Mark) (v : ℕ) (rest : List ℕ) → drop i s ≡ command_bytes m v ++ rest → p.turn ≡ turn_of m → (q : Progress) (x : Option ℤ) →
+        obey p (mentions_all p.variables t) (operand_at s i (operand_bytes m)) m ≡ obeyed q x → Left s (i + 1 + operand_bytes m) q.turn q (with t x) n T →
         AfterEnd q.turn → read_from mentions_all s room (suc k) i p t ≡ answer
     unfolding read_from
     on m v rest e u q x o a w =
         let l : i + 1 + operand_bytes m ≤ length s = bytes_long s i m v rest e in
-        let c : command_at s i p.turn ≡ command.Command m (operand_at s i (operand_bytes m)) (i + 1 + operand_bytes m) = ap (command_at s i) u ∙ bytes_command s i m v rest e in
+        let c : command_at s i p.turn ≡ commands m (operand_at s i (operand_bytes m)) (i + 1 + operand_bytes m) = ap (command_at s i) u ∙ bytes_command s i m v rest e in
         rw (lt-ltb i (length s) (omega arith), c, o)
         (stored_fits (read_from mentions_all s room k (i + 1 + operand_bytes m) q) i t x (omega (arith, simp length-append at (ap length a.table))) ∙ ih _ q (with t x) l (omega arith) a w)
 
@@ -82,22 +79,22 @@ module _ (s : List ℕ) (room : ℕ) (b : Bytes s) (n : ℕ) (T : List ℤ) (fit
         same_table = q ∙ append-nil t
 
         go : (b : Bool) → mentions_all n T ≡ b → read_from mentions_all s room (suc k) i p t ≡ answer
-        go true h = on Ends 0 [] e u (progress After p.variables p.clauses p.literals) Nothing (rw (← v, ← same_table, h))
+        go true h = on Ends 0 [] e u (progress After p.variables p.clauses p.literals) None (rw (← v, ← same_table, h))
             (record { clause = []; items = []; strip = λ y. bytes_rest s i Ends 0 [] e; table = q; variables = λ z. v; allows = a }) (λ _. h)
         go false h =
             let last : i ≡ length s - 1 = omega (arith, length-drop i s, ap length e) in
-            let c : command_at s i p.turn ≡ command.Command Ends 0 (i + 1 + 0) = ap (command_at s i) u ∙ bytes_command s i Ends 0 [] e in
+            let c : command_at s i p.turn ≡ commands Ends 0 (i + 1 + 0) = ap (command_at s i) u ∙ bytes_command s i Ends 0 [] e in
             rw (lt-ltb i (length s) (omega (arith, bytes_long s i Ends 0 [] e)), c, ← v, ← same_table, h, last)
 
     outside : p.turn ≡ Outside → n ≡ p.variables → (l : List Item) → drop i s ≡ item_bytes l → T ≡ t ++ table_of (groups l) →
         Allows 0 n p.clauses p.literals (groups l) → read_from mentions_all s room (suc k) i p t ≡ answer
     unfolding obey item_bytes groups
     outside u v [] e q a = ends u v e q a
-    outside u v (chapter x ∷ l) e q a = on Chapter x (item_bytes l) e u p Nothing refl
+    outside u v (chapter x ∷ l) e q a = on Chapter x (item_bytes l) e u p None refl
         (subst (λ (w : Turn). Left s (i + 1 + 1) w p t n T) (sym u)
         (record { clause = []; items = l; strip = λ y. bytes_rest s i Chapter x (item_bytes l) e; table = q; variables = λ z. v; allows = a }))
         (before_end p.turn (rw u))
-    outside u v (group c ∷ l) e q a = on Opens 0 _ e u (progress Inside p.variables (p.clauses + 1) p.literals) Nothing
+    outside u v (group c ∷ l) e q a = on Opens 0 _ e u (progress Inside p.variables (p.clauses + 1) p.literals) None
         (rw (lt-ltb p.clauses max_clauses (omega (arith, a.clauses))))
         (record {
           clause = c;
@@ -114,7 +111,7 @@ module _ (s : List ℕ) (room : ℕ) (b : Bytes s) (n : ℕ) (T : List ℤ) (fit
       abbrev further : Progress
       further = progress Inside p.variables p.clauses (p.literals + 1)
 
-      goes_on : entered p x ≡ Goes further (Element (entry_of x))
+      goes_on : entered p x ≡ obeyed further (Some (entry_of x))
       unfolding entries
       goes_on =
           let h = a.known _ x (Memᴰ.head refl) (Memᴰ.head refl) in
@@ -139,7 +136,7 @@ module _ (s : List ℕ) (room : ℕ) (b : Bytes s) (n : ℕ) (T : List ℤ) (fit
     inside : p.turn ≡ Inside → n ≡ p.variables → (c : Clause) (l : List Item) → drop i s ≡ entry_bytes c ++ (command_bytes Closes 0 ++ item_bytes l) →
         T ≡ t ++ table_of (c ∷ groups l) → Allows 1 n p.clauses p.literals (c ∷ groups l) → read_from mentions_all s room (suc k) i p t ≡ answer
     unfolding obey entry_bytes table_of entries
-    inside u v [] l e q a = on Closes 0 (item_bytes l) e u (progress Outside p.variables p.clauses p.literals) (Element _) refl
+    inside u v [] l e q a = on Closes 0 (item_bytes l) e u (progress Outside p.variables p.clauses p.literals) (Some _) refl
         (record {
           clause = [];
           items = l;
@@ -149,16 +146,16 @@ module _ (s : List ℕ) (room : ℕ) (b : Bytes s) (n : ℕ) (T : List ℤ) (fit
           allows = record { variables = a.variables; clauses = omega (arith, a.clauses); literals = omega (arith, a.literals); known = λ d k m. a.known d k (Memᴰ.tail m) };
         })
         (before_end Outside refl)
-    inside u v (Pos w ∷ c) l e q a = on Taken w _ e u (further v (Pos w) c l a) (Element (entry_of (Pos w)))
+    inside u v (Pos w ∷ c) l e q a = on Taken w _ e u (further v (Pos w) c l a) (Some (entry_of (Pos w)))
         (rw (word_at_lem s i _ w _ e) (goes_on v (Pos w) c l a)) (rest_left v (Pos w) c l a _ (bytes_rest s i Taken w _ e) q) (before_end Inside refl)
-    inside u v (Neg w ∷ c) l e q a = on LeftOut w _ e u (further v (Neg w) c l a) (Element (entry_of (Neg w)))
+    inside u v (Neg w ∷ c) l e q a = on LeftOut w _ e u (further v (Neg w) c l a) (Some (entry_of (Neg w)))
         (rw (word_at_lem s i _ w _ e) (goes_on v (Neg w) c l a)) (rest_left v (Neg w) c l a _ (bytes_rest s i LeftOut w _ e) q) (before_end Inside refl)
 
     by_turn : (u : Turn) → p.turn ≡ u → Left s i u p t n T → AfterEnd u → read_from mentions_all s room (suc k) i p t ≡ answer
     unfolding read_from obey table_of
     by_turn Start u a w =
         let e = a.strip b in
-        on Placements n _ e u (progress Outside n p.clauses p.literals) Nothing
+        on Placements n _ e u (progress Outside n p.clauses p.literals) None
         (rw (word_at_lem s i _ n _ e, le-ltb max_variables n a.allows.variables))
         (record { clause = []; items = a.items; strip = λ y. bytes_rest s i Placements n _ e; table = a.table; variables = λ z. refl; allows = a.allows }) (before_end Outside refl)
     by_turn Outside u a w = outside u (a.variables refl) a.items (a.strip b) a.table a.allows
@@ -192,7 +189,7 @@ module _ (s : List ℕ) (b : Bytes s) (room n : ℕ) (l : List Item) where
       }) (λ q. absurd (true_not_false q refl)))
 
   -- and one that is within the limits
-  pub within_reads : StripWithin s n l → length (table_of (groups l)) ≤ room → read_strip s room ≡ record { reading = Read n (length (table_of (groups l))); table = table_of (groups l) }
+  pub within_reads : StripWithin s n l → length (table_of (groups l)) ≤ room → read_strip s room ≡ record { reading = reading n (length (table_of (groups l))); table = table_of (groups l) }
   within_reads w fits = limits_read w.limits fits ∙ rw w.mentioned
 
 -- there is room for the table of every strip within the limits
@@ -201,5 +198,5 @@ unfolding table_of entries
 table_length [] = refl
 table_length (c ∷ f) = omega (arith, table_length f, length-append (map entry_of c) (pos 0 ∷ table_of f), length-map c entry_of)
 
-pub within_read : {s : List ℕ} {n : ℕ} {l : List Item} → Bytes s → StripWithin s n l → read_strip s max_table ≡ record { reading = Read n (length (table_of (groups l))); table = table_of (groups l) }
+pub within_read : {s : List ℕ} {n : ℕ} {l : List Item} → Bytes s → StripWithin s n l → read_strip s max_table ≡ record { reading = reading n (length (table_of (groups l))); table = table_of (groups l) }
 within_read {s} {n} {l} b w = let k = w.limits in within_reads s b max_table n l w (omega (arith, table_length (groups l), k.clauses, k.literals))

@@ -14,20 +14,17 @@ use Rattle.literal.specs.Literal.{max_variables, max_table}
 use Rattle.receipt.specs.declared.Fault.{Fault}
 use Rattle.receipt.specs.declared.Fault.TheVariants.{CutStrip, TableShort}
 use Rattle.receipt.specs.declared.Refusal.{Refusal}
-use Rattle.receipt.specs.declared.Reading.{Reading}
-use Rattle.receipt.specs.declared.Reading.TheVariants.{Read, Refused}
+use Rattle.std.specs.Prelude.{Result, Err}
+use Rattle.receipt.specs.declared.Read.{Read}
 use Rattle.receipt.specs.Receipt.{refusal}
-use Rattle.receipt.specs.Answers.{read_length}
+use Rattle.receipt.specs.Answers.{read_length, reading}
 use Rattle.theory.specs.declared.Mark.{Mark}
 use Rattle.theory.specs.declared.Turn.TheVariants.{After}
-use Rattle.theory.specs.declared.Command.TheVariants as command
-use Rattle.theory.specs.declared.Progress.{Progress}
-use Rattle.theory.specs.declared.Stored.{Stored}
-use Rattle.theory.specs.declared.Stored.TheVariants.{Nothing, Element}
+use Rattle.std.specs.Prelude.{Option, None, Some}
 use Rattle.theory.specs.declared.Obeyed.{Obeyed}
-use Rattle.theory.specs.declared.Obeyed.TheVariants as obeyed
+use Rattle.theory.specs.declared.Progress.{Progress}
 use Rattle.theory.specs.Mentions.{mentions_all}
-use Rattle.theory.specs.Strip.{same, nothing_read, command_at, obey, Decoding, not_read, ending, storing, onward, follow, read_from, max_strip, read_by, read_strip}
+use Rattle.theory.specs.Strip.{same, nothing_read, command_at, obey, Decoding, not_read, ending, storing, onward, follow, read_from, max_strip, read_by, read_strip, commands, obeyed}
 use Rattle.mentions.specs.Noted.{Noted}
 use Rattle.mentions.proofs.Noting.{noted_none}
 use Rattle.reader.proofs.Commands.{Stands, command_stands, command_bytes_lem}
@@ -57,12 +54,12 @@ module _ {s : List ℕ} {room at used : ℕ} {p : Progress} {cells : List ℤ} {
   used_length = length-take-le used cells in_cells
 
   -- the end of the strip
-  pub ended : length s ≤ at → (r : Reading) → r ≡ ending (length s) p used →
+  pub ended : length s ≤ at → (r : Result Read Refusal) → r ≡ ending (length s) p used →
       ◌≡◌ {A = Decoding} (record { reading = r; table = take (read_length r) cells }) (read_strip s room)
   unfolding read_from
   ended l r e = rw (e, in_use (same p.turn After)) (rw (le-ltb at (length s) l, used_length) at a.rest)
     where
-      in_use : (b : Bool) → take (read_length (cond b (Read p.variables used) (Refused (refusal CutStrip (length s))))) cells ≡ cond b (take used cells) []
+      in_use : (b : Bool) → take (read_length (cond b (reading p.variables used) (Err (refusal CutStrip (length s))))) cells ≡ cond b (take used cells) []
       in_use true = refl
       in_use false = refl
 
@@ -70,14 +67,14 @@ module _ {s : List ℕ} {room at used : ℕ} {p : Progress} {cells : List ℤ} {
   unfolding read_from
   followed l = rw (lt-ltb at (length s) l) at a.rest
 
-  pub no_command : at < length s → (f : Refusal) → command.Refused f ≡ command_at s at p.turn → not_read f ≡ read_strip s room
+  pub no_command : at < length s → (f : Refusal) → Err f ≡ command_at s at p.turn → not_read f ≡ read_strip s room
   no_command l f e = rw (← e) at (followed l)
 
 -- a command to be obeyed there
 pub record Commanded (s : List ℕ) (room at used : ℕ) (p : Progress) (cells : List ℤ) (mentioned : List Bool) (m : Mark) (v next : ℕ) : Type 0 where
   pub reached : Reached s room at used p cells mentioned
   pub inside : at < length s
-  pub command : command.Command m v next ≡ command_at s at p.turn
+  pub command : commands m v next ≡ command_at s at p.turn
 
 module _ {s : List ℕ} {room at used : ℕ} {p : Progress} {cells : List ℤ} {mentioned : List Bool} {m : Mark} {v next : ℕ}
     (c : Commanded s room at used p cells mentioned m v next) where
@@ -91,16 +88,16 @@ module _ {s : List ℕ} {room at used : ℕ} {p : Progress} {cells : List ℤ} {
   further = omega (arith, stands.further)
 
   -- what the command does
-  abbrev pub effect : Obeyed
+  abbrev pub effect : Result Obeyed Fault
   effect = obey p (mentions_all p.variables (take used cells)) v m
 
   obeying : onward room (read_from mentions_all s room a.fuel next) at (take used cells) effect ≡ read_strip s room
   obeying = rw (← c.command) at (followed a c.inside)
 
-  pub not_obeyed : (why : Fault) → obeyed.Refused why ≡ effect → not_read (refusal why at) ≡ read_strip s room
+  pub not_obeyed : (why : Fault) → Err why ≡ effect → not_read (refusal why at) ≡ read_strip s room
   not_obeyed why e = rw (← e) at obeying
 
-  module _ {q : Progress} {e : Stored} (g : obeyed.Goes q e ≡ effect) where
+  module _ {q : Progress} {e : Option ℤ} (g : obeyed q e ≡ effect) where
     sound : Sound q (used + elements e)
     sound =
         let d : Sound p (length (take used cells)) = rw (used_length a) a.sound in
@@ -120,10 +117,10 @@ module _ {s : List ℕ} {room at used : ℕ} {p : Progress} {cells : List ℤ} {
         go zero n r = absurd (omega (arith, c.inside))
         go (suc k) n r = record { short = a.short; sound = sound; long = long; noted = noted; fuel = k; enough = omega (arith, further); rest = r }
 
-  pub kept : {q : Progress} → obeyed.Goes q Nothing ≡ effect → Reached s room next used q cells mentioned
+  pub kept : {q : Progress} → obeyed q None ≡ effect → Reached s room next used q cells mentioned
   kept g = rw add-zero at (reached g cells a.long mentioned (rw add-zero a.noted) (rw add-zero (storing_rest g)))
 
-  module _ {q : Progress} {x : ℤ} (g : obeyed.Goes q (Element x) ≡ effect) where
+  module _ {q : Progress} {x : ℤ} (g : obeyed q (Some x) ≡ effect) where
     pub no_room : room ≤ used → not_read (refusal TableShort at) ≡ read_strip s room
     no_room h = rw (le-ltb (length (take used cells)) room (omega (arith, used_length a))) at (storing_rest g)
 

@@ -1,5 +1,6 @@
 -- What a strip's receipt says: with 5 the group is the one that is open at the place, and with every other number it is 0 (A2); with 26 the place is an end mark before
 -- which some placement isn't named (A3).
+use Rattle.receipt.specs.declared.Fault.{Fault}
 use mathlib.Core.Path.{◌≡◌, subst}
 use mathlib.Core.Logic.{◌≢◌}
 use mathlib.Core.List.{List, [], ◌∷◌, ◌++◌}
@@ -13,20 +14,19 @@ use lib.ListN.{length, length-append}
 use Rattle.general.specs.Booleans.{cond_ind}
 use Rattle.receipt.specs.Answers.{reading_receipt}
 use Rattle.receipt.specs.Receipt.{receipt, refusal}
-use Rattle.receipt.specs.declared.Reading.{Reading}
+use Rattle.std.specs.Prelude.{Result, Ok}
+use Rattle.receipt.specs.declared.Read.{Read}
+use Rattle.receipt.specs.declared.Refusal.{Refusal}
 use Rattle.receipt.specs.declared.Receipt.{Receipt}
 use Rattle.theory.specs.declared.Turn.{Turn}
 use Rattle.theory.specs.declared.Turn.TheVariants.{After}
+use Rattle.std.specs.Prelude.{Option, None, Some, Err}
 use Rattle.theory.specs.declared.Command.{Command}
-use Rattle.theory.specs.declared.Command.TheVariants as command
-use Rattle.theory.specs.declared.Progress.{Progress}
-use Rattle.theory.specs.declared.Stored.{Stored}
-use Rattle.theory.specs.declared.Stored.TheVariants.{Nothing, Element}
 use Rattle.theory.specs.declared.Obeyed.{Obeyed}
-use Rattle.theory.specs.declared.Obeyed.TheVariants as obeyed
+use Rattle.theory.specs.declared.Progress.{Progress}
 use Rattle.theory.specs.Mentions.{mentions_all}
 use Rattle.theory.specs.Encoding.{UnmentionedInStrip, Bytes}
-use Rattle.theory.specs.Strip.{turn_of, same, nothing_read, obey, Decoding, storing, onward, follow, read_from, command_at, max_strip, read_by, read_strip}
+use Rattle.theory.specs.Strip.{turn_of, same, nothing_read, obey, Decoding, storing, onward, follow, read_from, command_at, max_strip, read_by, read_strip, obeyed}
 use Rattle.theory.specs.Unknown.{UnknownInStrip, Names}
 use Rattle.theory.proofs.Unknown.{none_named, refusal_names}
 use Rattle.reader.proofs.Commands.{Says, command_says, command_bytes_lem}
@@ -42,7 +42,7 @@ module _ (s : List ℕ) (bytes : Bytes s) (room : ℕ) where
   other_tells : (m p : ℕ) → m ≢ 5 → m ≢ 26 → Tells (receipt m p 0)
   other_tells m p h k = record { names = none_named m p 0 h; unmentioned = λ z. absurd (k z) }
 
-  abbrev TellsIn : Reading → Type 0
+  abbrev TellsIn : Result Read Refusal → Type 0
   TellsIn r = Tells (reading_receipt r)
 
   abbrev TellsAt : Decoding → Type 0
@@ -52,15 +52,15 @@ module _ (s : List ℕ) (bytes : Bytes s) (room : ℕ) where
   module _ (k i next : ℕ) (t : List ℤ)
       (fits : length t ≤ room)
       (ih : (q : Progress) (t' : List ℤ) → Sound q (length t') → length t' ≤ room → Behind s next q.turn q t' → TellsAt (read_from mentions_all s room k next q t')) where
-    stored_tells : (q : Progress) (e : Stored) → Sound q (length t + elements e) → Follows s room i next t (obeyed.Goes q e) →
+    stored_tells : (q : Progress) (e : Option ℤ) → Sound q (length t + elements e) → Follows s room i next t (obeyed q e) →
         TellsAt (storing room (read_from mentions_all s room k next q) i t e)
-    stored_tells q Nothing d b = ih q t (rw add-zero at d) fits b
-    stored_tells q (Element x) d b = cond_ind TellsAt _ _ (ltb (length t) room)
+    stored_tells q None d b = ih q t (rw add-zero at d) fits b
+    stored_tells q (Some x) d b = cond_ind TellsAt _ _ (ltb (length t) room)
         (λ h. ih q (t ++ (x ∷ [])) (rw (length-append t (x ∷ [])) d) (omega (arith, length-append t (x ∷ []), ltb-true (length t) room h)) b) (λ _. other_tells 23 i (λ z. omega arith) (λ z. omega arith))
 
-    obeyed_tells : (p : Progress) (u : Turn) (o : Obeyed) → Keeps s i next p t u o → Follows s room i next t o → TellsAt (onward room (read_from mentions_all s room k next) i t o)
-    obeyed_tells p u (obeyed.Goes q e) d b = stored_tells q e d.0 b
-    obeyed_tells p u (obeyed.Refused why) d f = record { names = refusal_names (refusal why i) f.0; unmentioned = f.1 }
+    obeyed_tells : (p : Progress) (u : Turn) (o : Result Obeyed Fault) → Keeps s i next p t u o → Follows s room i next t o → TellsAt (onward room (read_from mentions_all s room k next) i t o)
+    obeyed_tells p u (Ok o) d b = stored_tells o.progress o.stored d.0 b
+    obeyed_tells p u (Err why) d f = record { names = refusal_names (refusal why i) f.0; unmentioned = f.1 }
 
   from_tells : length s ≤ max_strip → (k i : ℕ) (p : Progress) (t : List ℤ) → Sound p (length t) → length t ≤ room → Behind s i p.turn p t → TellsAt (read_from mentions_all s room k i p t)
   unfolding read_from
@@ -71,12 +71,12 @@ module _ (s : List ℕ) (bytes : Bytes s) (room : ℕ) where
       (λ _. cond_ind TellsIn _ _ (same p.turn After) (λ _. other_tells 16 0 (λ z. omega arith) (λ z. omega arith)) (λ _. other_tells 21 (length s) (λ z. omega arith) (λ z. omega arith)))
     where
       followed : ((j : ℕ) (q : Progress) (t' : List ℤ) → Sound q (length t') → length t' ≤ room → Behind s j q.turn q t' → TellsAt (read_from mentions_all s room k j q t')) →
-          (c : Command) → Says s i p.turn c → TellsAt (follow mentions_all s room (read_from mentions_all s room k) i p t c)
-      followed ih (command.Command m v next) c =
-          obeyed_tells k i next t fits (ih next) p (turn_of m) (obey p (mentions_all p.variables t) v m)
-          (obey_keeps s i next p t d m v c.turn (command_bytes_lem s i c))
-          (obey_follows s room short i next c.long p t d fits m v c.turn (command_bytes_lem s i c bytes) (subst (λ (u : Turn). Behind s i u p t) c.turn b))
-      followed ih (command.Refused f) c = record { names = refusal_names f (λ z. absurd (omega (arith, c.1))); unmentioned = λ z. absurd (omega (arith, c.2)) }
+          (c : Result Command Refusal) → Says s i p.turn c → TellsAt (follow mentions_all s room (read_from mentions_all s room k) i p t c)
+      followed ih (Ok found) c =
+          obeyed_tells k i found.next t fits (ih found.next) p (turn_of found.mark) (obey p (mentions_all p.variables t) found.operand found.mark)
+          (obey_keeps s i found.next p t d found.mark found.operand c.turn (command_bytes_lem s i c))
+          (obey_follows s room short i found.next c.long p t d fits found.mark found.operand c.turn (command_bytes_lem s i c bytes) (subst (λ (u : Turn). Behind s i u p t) c.turn b))
+      followed ih (Err f) c = record { names = refusal_names f (λ z. absurd (omega (arith, c.1))); unmentioned = λ z. absurd (omega (arith, c.2)) }
 
   -- the whole strip
   tells : TellsAt (read_strip s room)

@@ -1,5 +1,6 @@
 -- What a command that is obeyed keeps: the numbers stay within the limits and count the elements that are stored, and what is left of the strip after it,
 -- by its grammar, is what was left before it without the command.
+use Rattle.receipt.specs.declared.Fault.{Fault}
 use mathlib.Core.Path.{◌≡◌, refl, sym, subst, ◌∙◌}
 use mathlib.Core.Bool.{false, ◌||◌}
 use mathlib.Core.Logic.{⊎_elim}
@@ -20,10 +21,8 @@ use Rattle.theory.specs.declared.Mark.TheVariants.{Placements, Chapter, Opens, T
 use Rattle.theory.specs.declared.Turn.{Turn}
 use Rattle.theory.specs.declared.Turn.TheVariants.{Start, Outside, Inside, After}
 use Rattle.theory.specs.declared.Progress.{Progress}
-use Rattle.theory.specs.declared.Stored.{Stored}
-use Rattle.theory.specs.declared.Stored.TheVariants.{Nothing, Element}
+use Rattle.std.specs.Prelude.{Option, None, Some, Result, Err, Ok}
 use Rattle.theory.specs.declared.Obeyed.{Obeyed}
-use Rattle.theory.specs.declared.Obeyed.TheVariants.{Goes, Refused}
 use Rattle.theory.specs.Formula.{Clause, Formula}
 use Rattle.theory.specs.Mentions.{mentions_all, Mentioned}
 use Rattle.theory.specs.Strip.{turn_of, same, nothing_read, entered, obey}
@@ -49,9 +48,9 @@ pub begun_sound : Sound nothing_read 0
 begun_sound = record { variables = omega arith; clauses = omega arith; literals = omega arith; elements = refl }
 
 -- how many elements are stored
-abbrev pub elements : Stored → ℕ
-elements Nothing = 0
-elements (Element e) = 1
+abbrev pub elements : Option ℤ → ℕ
+elements None = 0
+elements (Some e) = 1
 
 -- what is left of a strip: the entries of the open group, and the items after it
 abbrev pub ahead : Turn → ℕ → Clause → List Item → List ℕ
@@ -88,10 +87,10 @@ module _ (s : List ℕ) where
     pub allows : Allows (pending u) n p.clauses p.literals (coming u clause items)
 
   -- what obeying a mark at index i says of the strip from next on
-  abbrev pub Keeps : ℕ → ℕ → Progress → List ℤ → Turn → Obeyed → Type 0
-  Keeps i next p t u (Goes q e) =
-      Sound q (length t + elements e) × ((n : ℕ) (T : List ℤ) → Left next q.turn q (with t e) n T → Left i u p t n T × (MayEnd q.turn n T → MayEnd u n T))
-  Keeps i next p t u (Refused why) = OfCommand why
+  abbrev pub Keeps : ℕ → ℕ → Progress → List ℤ → Turn → Result Obeyed Fault → Type 0
+  Keeps i next p t u (Ok o) =
+      Sound o.progress (length t + elements o.stored) × ((n : ℕ) (T : List ℤ) → Left next o.progress.turn o.progress (with t o.stored) n T → Left i u p t n T × (MayEnd o.progress.turn n T → MayEnd u n T))
+  Keeps i next p t u (Err why) = OfCommand why
 
 closed_range : (n : ℕ) (f : Formula) → InRange n f → InRange n ([] ∷ f)
 closed_range n f h c l mc ml = ⊎_elim (λ (q : c ≡ []). absurd (Memᴰ.not-nil (rw q at ml))) (λ m. h c l m ml) (Memᴰ.cases_cons mc)

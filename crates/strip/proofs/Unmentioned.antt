@@ -14,19 +14,19 @@ use lib.Seq.{get_or-take, length-take-le}
 use Rattle.general.specs.Booleans.{false_unless}
 use Rattle.general.specs.Lists.{get_or_past}
 use Rattle.receipt.specs.declared.Fault.TheVariants.{CutStrip, UnmentionedVariable}
-use Rattle.receipt.specs.declared.Reading.{Reading}
-use Rattle.receipt.specs.declared.Reading.TheVariants.{Read, Refused}
+use Rattle.std.specs.Prelude.{Result, Err, Ok}
+use Rattle.receipt.specs.declared.Read.{Read}
+use Rattle.receipt.specs.declared.Refusal.{Refusal}
 use Rattle.receipt.specs.Receipt.{refusal}
-use Rattle.receipt.specs.Answers.{reading_receipt}
+use Rattle.receipt.specs.Answers.{reading_receipt, reading}
 use Rattle.theory.specs.declared.Mark.{Mark}
 use Rattle.theory.specs.declared.Mark.TheVariants.{Placements, Chapter, Opens, Taken, LeftOut, Closes, Ends}
 use Rattle.theory.specs.declared.Turn.{Turn}
 use Rattle.theory.specs.declared.Turn.TheVariants.{After}
 use Rattle.theory.specs.declared.Command.{Command}
-use Rattle.theory.specs.declared.Command.TheVariants as command
 use Rattle.theory.specs.declared.Progress.{Progress}
 use Rattle.theory.specs.Mentions.{mentions_all}
-use Rattle.theory.specs.Strip.{same, operand_bytes, operand_at, nothing_read, obey, Decoding, not_read, follow, finish, read_from, command_at, max_strip, read_by, read_strip}
+use Rattle.theory.specs.Strip.{same, operand_bytes, operand_at, nothing_read, obey, Decoding, not_read, follow, finish, read_from, command_at, max_strip, read_by, read_strip, commands}
 use Rattle.theory.specs.Encoding.{UnmentionedInStrip, Bytes}
 use Rattle.reader.proofs.Commands.{Stands, Says, command_says, stands_command}
 use Rattle.strip.proofs.Encoded.{limits_read}
@@ -54,7 +54,7 @@ module _ (s : List ℕ) (m : ℕ) (long : m ≤ length s) where
   operand_same i Ends h = refl
 
   -- a command of the front is one of the strip
-  command_same : (i : ℕ) (u : Turn) (k : Mark) (v next : ℕ) → Stands front i u k v next → command_at s i u ≡ command.Command k v next
+  command_same : (i : ℕ) (u : Turn) (k : Mark) (v next : ℕ) → Stands front i u k v next → command_at s i u ≡ commands k v next
   command_same i u k v next c =
       let inside : next ≤ m = omega (arith, c.long, front_length) in
       stands_command s i (record {
@@ -73,7 +73,7 @@ module _ (s : List ℕ) (m : ℕ) (long : m ≤ length s) where
     finish_other : (p : Progress) (t : List ℤ) → ¬ ((reading_receipt (finish front p t).reading).number ≡ 26)
     finish_other p t = go (same p.turn After)
       where
-        go : (b : Bool) → ¬ ((reading_receipt (cond b (Read p.variables (length t)) (Refused (refusal CutStrip (length front))))).number ≡ 26)
+        go : (b : Bool) → ¬ ((reading_receipt (cond b (reading p.variables (length t)) (Err (refusal CutStrip (length front))))).number ≡ 26)
         go true z = omega arith
         go false z = omega arith
 
@@ -88,12 +88,12 @@ module _ (s : List ℕ) (m : ℕ) (long : m ≤ length s) where
     ]
       where
         followed : ((j : ℕ) (q : Progress) (t' : List ℤ) → Carried (read_from mentions_all front room k j q t') (read_from mentions_all s room k' j q t')) →
-            (c : Command) → Says front i p.turn c →
+            (c : Result Command Refusal) → Says front i p.turn c →
             Carried (follow mentions_all front room (read_from mentions_all front room k) i p t c) (follow mentions_all s room (read_from mentions_all s room k') i p t (command_at s i p.turn))
-        followed ih (command.Command n v next) c =
-            rw (command_same i p.turn n v next c) (onward_related Carried (λ d z. refl) room i t (read_from mentions_all front room k next) (read_from mentions_all s room k' next) (ih next)
-            (obey p (mentions_all p.variables t) v n))
-        followed ih (command.Refused f) c = λ z. absurd (omega (arith, c.2))
+        followed ih (Ok found) c =
+            rw (command_same i p.turn found.mark found.operand found.next c) (onward_related Carried (λ d z. refl) room i t (read_from mentions_all front room k found.next) (read_from mentions_all s room k' found.next) (ih found.next)
+            (obey p (mentions_all p.variables t) found.operand found.mark))
+        followed ih (Err f) c = λ z. absurd (omega (arith, c.2))
 
 module _ (s : List ℕ) (b : Bytes s) (room : ℕ) where
   front_bytes : (m : ℕ) → Bytes (take m s)
@@ -120,8 +120,8 @@ module _ (s : List ℕ) (b : Bytes s) (room : ℕ) where
         rw (le-ltb max_strip (length s) w.short)
         (from_carried s (i + 1) inside room (suc (length f)) (suc (length s)) 0 nothing_read [] (omega (arith, long, inside)) (ap (λ (d : Decoding). (reading_receipt d.reading).number) e) ∙ e)
 
-  pub unmentioned_exactly : (i : ℕ) → ((read_strip s room).reading ≡ Refused (refusal UnmentionedVariable i)) ↔ UnmentionedInStrip s room i
+  pub unmentioned_exactly : (i : ℕ) → ((read_strip s room).reading ≡ Err (refusal UnmentionedVariable i)) ↔ UnmentionedInStrip s room i
   unmentioned_exactly i = (
-    λ e. rw (ap (λ (r : Reading). (reading_receipt r).place) e) at (strip_unmentioned s b room (ap (λ (r : Reading). (reading_receipt r).number) e)),
+    λ e. rw (ap (λ (r : Result Read Refusal). (reading_receipt r).place) e) at (strip_unmentioned s b room (ap (λ (r : Result Read Refusal). (reading_receipt r).number) e)),
     λ w. ap (λ (d : Decoding). d.reading) (refused i w),
   )

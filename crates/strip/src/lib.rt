@@ -3,18 +3,15 @@
 
 ghost use Rattle.std.specs.Prelude.{◌≡◌, List, ◌≤◌, ℤ, length};
 ghost use Rattle.literal.specs.Literal.{max_variables};
-ghost use Rattle.receipt.specs.Receipt.{refusal};
-ghost use Rattle.theory.specs.declared.Command.TheVariants as command;
-ghost use Rattle.theory.specs.declared.Obeyed.TheVariants.{Goes};
 ghost use Rattle.theory.specs.Mentions.{mentions_all};
-ghost use Rattle.theory.specs.Strip.{progress, entered, ended, obey, not_read, ending, read_strip};
+ghost use Rattle.theory.specs.Strip.{obeyed, entered, declared, opened, closed, ended, obey, ending, read_strip};
 ghost use Rattle.theory.specs.Calls.{read_call};
 ghost use Rattle.mentions.specs.Noted.{Noted};
 ghost use Rattle.strip.specs.Decoding.{decoding_of, called};
 
 use literal::{ClauseNumber, Literal, Variable};
-use receipt::{Fault, Reading, Refusal};
-use theory::{Command, Mark, Obeyed, Progress, Stored, Turn};
+use receipt::{Fault, Read, Refusal};
+use theory::{Mark, Obeyed, Progress, Turn};
 
 pub const MAX_STRIP: usize = 16384;
 
@@ -27,58 +24,84 @@ const NOTHING_READ: Progress = Progress {
 
 // What a command does -------------------------------------------------------------------------------------------------
 
-fn goes(turn: Turn, variables: u16, clauses: u16, literals: u16, stored: Stored) -> Obeyed
-    ensures { result ≡ Goes (progress turn variables clauses literals) stored }
+fn obeyed(progress: Progress, stored: Option<i16>) -> Result<Obeyed, Fault>
+    ensures { result ≡ obeyed progress stored }
 {
-    Obeyed::Goes(
-        Progress {
-            turn,
-            variables,
-            clauses,
-            literals,
-        },
-        stored,
-    )
+    Ok(Obeyed { progress, stored })
 }
 
 // An entry: its value, then the limit. An unknown one is of the group that is open.
-fn entered(progress: Progress, literal: Literal) -> Obeyed
+fn entered(progress: Progress, literal: Literal) -> Result<Obeyed, Fault>
     requires { progress.variables ≤ max_variables }
     ensures { result ≡ entered progress literal }
 {
     let p = literal.variable().0;
     if p == 0 || progress.variables < p {
-        return Obeyed::Refused(Fault::UnknownVariable(ClauseNumber(progress.clauses)));
+        return Err(Fault::UnknownVariable(ClauseNumber(progress.clauses)));
     }
-    if (progress.literals as usize) < Literal::MAX_LITERALS {
-        goes(
-            Turn::Inside,
-            progress.variables,
-            progress.clauses,
-            progress.literals + 1,
-            Stored::Element(literal.entry()),
-        )
-    } else {
-        Obeyed::Refused(Fault::TooManyLiterals)
+    if Literal::MAX_LITERALS <= progress.literals as usize {
+        return Err(Fault::TooManyLiterals);
     }
+    let further = Progress {
+        turn: Turn::Inside,
+        literals: progress.literals + 1,
+        ..progress
+    };
+    obeyed(further, Some(literal.entry()))
 }
 
 // The end mark: every placement must have been named.
-fn ended(progress: Progress, mentioned: &[bool; Literal::VARIABLES]) -> Obeyed
+fn ended(progress: Progress, mentioned: &[bool; Literal::VARIABLES]) -> Result<Obeyed, Fault>
     requires { progress.variables ≤ max_variables }
     ensures { (t : List ℤ) → Noted mentioned.now t → result ≡ ended progress (mentions_all progress.variables t) }
 {
-    if mentions::all_noted(mentioned, progress.variables as usize) {
-        goes(
-            Turn::After,
-            progress.variables,
-            progress.clauses,
-            progress.literals,
-            Stored::Nothing,
-        )
-    } else {
-        Obeyed::Refused(Fault::UnmentionedVariable)
+    if !mentions::all_noted(mentioned, progress.variables as usize) {
+        return Err(Fault::UnmentionedVariable);
     }
+    let after = Progress {
+        turn: Turn::After,
+        ..progress
+    };
+    obeyed(after, None)
+}
+
+// The number of placements.
+fn declared(progress: Progress, n: u16) -> Result<Obeyed, Fault>
+    ensures { result ≡ declared progress n }
+{
+    if Literal::MAX_VARIABLES < n as usize {
+        return Err(Fault::TooManyVariables);
+    }
+    let outside = Progress {
+        turn: Turn::Outside,
+        variables: n,
+        ..progress
+    };
+    obeyed(outside, None)
+}
+
+fn opened(progress: Progress) -> Result<Obeyed, Fault>
+    ensures { result ≡ opened progress }
+{
+    if Literal::MAX_CLAUSES <= progress.clauses as usize {
+        return Err(Fault::TooManyClauses);
+    }
+    let inside = Progress {
+        turn: Turn::Inside,
+        clauses: progress.clauses + 1,
+        ..progress
+    };
+    obeyed(inside, None)
+}
+
+fn closed(progress: Progress) -> Result<Obeyed, Fault>
+    ensures { result ≡ closed progress }
+{
+    let outside = Progress {
+        turn: Turn::Outside,
+        ..progress
+    };
+    obeyed(outside, Some(0))
 }
 
 // What a command with its operand does. A chapter does nothing.
@@ -88,88 +111,49 @@ fn obey(
     mentioned: &[bool; Literal::VARIABLES],
     operand: u16,
     mark: Mark,
-) -> Obeyed
+) -> Result<Obeyed, Fault>
     requires { progress.variables ≤ max_variables }
     ensures { (t : List ℤ) → Noted mentioned.now t → result ≡ obey progress (mentions_all progress.variables t) operand mark }
 {
-    let n = progress.variables;
-    let clauses = progress.clauses;
-    let literals = progress.literals;
     match mark {
-        Mark::Placements => {
-            if Literal::MAX_VARIABLES < operand as usize {
-                Obeyed::Refused(Fault::TooManyVariables)
-            } else {
-                goes(Turn::Outside, operand, clauses, literals, Stored::Nothing)
-            }
-        }
-        Mark::Chapter => Obeyed::Goes(progress, Stored::Nothing),
-        Mark::Opens => {
-            if (clauses as usize) < Literal::MAX_CLAUSES {
-                goes(Turn::Inside, n, clauses + 1, literals, Stored::Nothing)
-            } else {
-                Obeyed::Refused(Fault::TooManyClauses)
-            }
-        }
+        Mark::Placements => declared(progress, operand),
+        Mark::Chapter => obeyed(progress, None),
+        Mark::Opens => opened(progress),
         Mark::Taken => entered(progress, Literal::new(Variable(operand), true)),
         Mark::LeftOut => entered(progress, Literal::new(Variable(operand), false)),
-        Mark::Closes => goes(Turn::Outside, n, clauses, literals, Stored::Element(0)),
+        Mark::Closes => closed(progress),
         Mark::Ends => ended(progress, mentioned),
     }
 }
 
 // The whole strip -----------------------------------------------------------------------------------------------------
 
-// The answer, and the table that was read in the first cells; those past the used length are free.
-#[derive(Drop)]
+// The table that was read, in the first cells; those past the used length are free.
+#[derive(Clone, Copy)]
 pub struct Decoded {
-    pub reading: Reading,
+    pub read: Read,
     pub cells: [i16; Literal::MAX_TABLE],
 }
 
-fn refused(fault: Fault, place: usize) -> Decoded
-    ensures { decoding_of result ≡ not_read (refusal fault place) }
-{
-    Decoded {
-        reading: Reading::Refused(Refusal::new(fault, place)),
-        cells: [0i16; Literal::MAX_TABLE],
-    }
-}
-
-// "the refusal passed on"; nothing is asked of a command that is none.
-fn passed_on(found: Command) -> Decoded
-    ensures { (f : Refusal) → found ≡ command.Refused f → decoding_of result ≡ not_read f }
-{
-    match found {
-        Command::Refused(why) => {
-            let fault = why.fault;
-            refused(fault, why.place)
-        }
-        Command::Command(_, _, next) => refused(Fault::CutStrip, next),
-    }
-}
-
 // The end of a strip of so many bytes: without 5A it is cut.
-fn ending(length: usize, progress: Progress, used: usize) -> Reading
+fn ending(length: usize, progress: Progress, used: usize) -> Result<Read, Refusal>
     ensures { result ≡ ending length progress used }
 {
-    let turn = progress.turn;
-    if reader::same(turn, Turn::After) {
-        Reading::Read {
-            variables: progress.variables as usize,
-            used,
-        }
-    } else {
-        Reading::Refused(Refusal::new(Fault::CutStrip, length))
+    if progress.turn != Turn::After {
+        return Err(Refusal::new(Fault::CutStrip, length));
     }
+    Ok(Read {
+        variables: progress.variables as usize,
+        used,
+    })
 }
 
 // Command by command, with room for so many elements.
-pub fn decode(strip: &[u8], room: usize) -> Decoded
+pub fn decode(strip: &[u8], room: usize) -> Result<Decoded, Refusal>
     ensures { decoding_of result ≡ read_strip strip.now room }
 {
     if MAX_STRIP < strip.len() {
-        return refused(Fault::StripTooLong, 0);
+        return Err(Refusal::new(Fault::StripTooLong, 0));
     }
     let mut cells = [0i16; Literal::MAX_TABLE];
     let mut mentioned = [false; Literal::VARIABLES];
@@ -177,40 +161,33 @@ pub fn decode(strip: &[u8], room: usize) -> Decoded
     let mut progress = NOTHING_READ;
     let mut at: usize = 0;
     while at < strip.len() {
-        let turn = progress.turn;
-        let found = reader::command_from(strip, at, turn);
-        let Command::Command(mark, operand, next) = found else {
-            return passed_on(found);
+        let place = at;
+        let command = reader::command_from(strip, place, progress.turn)?;
+        let done = match obey(progress, &mentioned, command.operand, command.mark) {
+            Ok(done) => done,
+            Err(fault) => return Err(Refusal::new(fault, place)),
         };
-        match obey(progress, &mentioned, operand, mark) {
-            Obeyed::Refused(fault) => return refused(fault, at),
-            Obeyed::Goes(further, stored) => {
-                if let Stored::Element(element) = stored {
-                    if room <= used {
-                        return refused(Fault::TableShort, at);
-                    }
-                    cells[used] = element;
-                    used += 1;
-                    mentions::note(&mut mentioned, literal::size(element));
-                }
-                progress = further;
-                at = next;
-            }
+        progress = done.progress;
+        at = command.next;
+        let Some(element) = done.stored else {
+            continue;
+        };
+        if room <= used {
+            return Err(Refusal::new(Fault::TableShort, place));
         }
+        cells[used] = element;
+        used += 1;
+        mentions::note(&mut mentioned, literal::size(element));
     }
-    Decoded {
-        reading: ending(strip.len(), progress, used),
-        cells,
-    }
+    let read = ending(strip.len(), progress, used)?;
+    Ok(Decoded { read, cells })
 }
 
 // A strip into a table. A refused strip has no element that could be written.
-pub fn read(strip: &[u8], table: &mut [i16]) -> Reading
+pub fn read(strip: &[u8], table: &mut [i16]) -> Result<Read, Refusal>
     ensures { called result table.new ≡ read_call strip.now table.old }
 {
-    let decoded = decode(strip, table.len());
-    let reading = decoded.reading;
-    let used = reading.used();
-    fill::copy_numbers(table, 0, &decoded.cells, used);
-    reading
+    let decoded = decode(strip, table.len())?;
+    fill::copy(table, 0, &decoded.cells, decoded.read.used);
+    Ok(decoded.read)
 }

@@ -1,8 +1,6 @@
 // The program strip_of: a filing typed in decimal from standard input; its strip to standard output, or one line to standard error.
 #![tactic(auto)]
 
-use typed::Typed;
-
 fn main(rt: HostRuntime) {
     if stream::explained(
         &rt,
@@ -11,17 +9,12 @@ fn main(rt: HostRuntime) {
         return;
     }
     let mut text = [0u8; typed::INPUT];
-    let input = stream::read_input(&rt, &mut text);
-    if input.failed {
+    let Ok(length) = stream::read_input(&rt, &mut text) else {
         return;
-    }
+    };
     let mut out = [0u8; typed::OUTPUT];
-    let length = input.length;
-    let answer = typed::strip_of(&text[..length], &mut out);
-    let bytes = answer.bytes(&out);
-    if let Typed::Strip(_) = answer {
-        stream::write_output(&rt, bytes);
-    } else {
-        stream::write_error(&rt, bytes);
+    match typed::strip_of(&text[..length], &mut out) {
+        Ok(length) => stream::write_output(&rt, &out[..length]),
+        Err(message) => stream::write_error(&rt, &out[..message.length]),
     }
 }

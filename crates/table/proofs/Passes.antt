@@ -2,7 +2,7 @@
 use mathlib.Core.Path.{◌≡◌, refl, ap, sym, ◌∙◌}
 use mathlib.Core.Bool.{Bool, true, false, not, cond}
 use mathlib.Core.List.{List, [], ◌∷◌, ◌++◌, append_assoc}
-use mathlib.Core.Option.{Option, some}
+use Rattle.std.specs.Prelude.{Option, None, Some}
 use Prim.Native.Nat.{ℕ, ◌+◌, ◌<◌, ◌≤◌, min}
 use native.Mathlib.Decide.{dec_lt}
 use native.Mathlib.Numerals.{add-one}
@@ -16,12 +16,11 @@ use Rattle.general.specs.Booleans.{bit}
 use Rattle.general.specs.Search.{first_place}
 use Rattle.literal.specs.Literal.{clause_number, max_clauses, max_literals}
 use Rattle.receipt.specs.declared.Fault.TheVariants.{UnknownVariable}
-use Rattle.receipt.specs.declared.Checked.{Checked}
-use Rattle.receipt.specs.declared.Checked.TheVariants.{Passed}
+use Rattle.std.specs.Prelude.{Ok}
+use Rattle.receipt.specs.Receipt.{Checked, pass}
 use Rattle.theory.specs.Table.{zeros, nonzeros, ends_open, refused, is_unknown, table_unknown, check, Accepted}
 use Rattle.theory.proofs.Tables.{zeros_append, nonzeros_append, length_elements, accepted_sizes}
 use Rattle.table.specs.declared.Unknown.{Unknown}
-use Rattle.table.specs.declared.Unknown.TheVariants.{Nowhere, At}
 use Rattle.table.specs.declared.Pass.{Pass}
 use Rattle.table.specs.Pass.{begin, enough_clauses, enough_literals, count_if, place_next, clause_next, earlier, next, after, refused_at, verdict}
 
@@ -73,9 +72,9 @@ unclosed_of s [] = refl
 unclosed_of s (e ∷ t) = unclosed_of (next s (nat_abs e)) t
 
 -- the refusal of the elements passed, or else of those that are left
-abbrev or_later : Unknown → Checked → Checked
-or_later Nowhere c = c
-or_later (At i k) c = refused (UnknownVariable k) i
+abbrev or_later : Option Unknown → Checked → Checked
+or_later None c = c
+or_later (Some u) c = refused (UnknownVariable u.clause) u.place
 
 -- of the elements p passed and of t to come, while the counts are within the limits
 record Before (s : Pass) (p t : List ℤ) : Type 0 where
@@ -96,16 +95,16 @@ module _ (s : Pass) (p : List ℤ) (e : ℤ) (t : List ℤ) (b : Before s p (e �
 
   unknown_next_lem : (o : Option ℕ) →
       or_later (next s (nat_abs e)).unknown (table_unknown (p ++ (e ∷ t)) o)
-      ≡ or_later s.unknown (table_unknown (p ++ (e ∷ t)) (cond (is_unknown s.variables e) (some (length p)) o))
+      ≡ or_later s.unknown (table_unknown (p ++ (e ∷ t)) (cond (is_unknown s.variables e) (Some (length p)) o))
   unfolding next
   unknown_next_lem o = go s.unknown (ltb s.variables (nat_abs e))
     where
-      go : (u : Unknown) (k : Bool) →
-          or_later (earlier u (cond k (At (place_next s) (clause_next s)) Nowhere)) (table_unknown (p ++ (e ∷ t)) o)
-          ≡ or_later u (table_unknown (p ++ (e ∷ t)) (cond k (some (length p)) o))
-      go Nowhere true = rw (place_here, clause_here)
-      go Nowhere false = refl
-      go (At i m) k = refl
+      go : (u : Option Unknown) (k : Bool) →
+          or_later (earlier u (cond k (Some (record { place = place_next s; clause = clause_next s })) None)) (table_unknown (p ++ (e ∷ t)) o)
+          ≡ or_later u (table_unknown (p ++ (e ∷ t)) (cond k (Some (length p)) o))
+      go None true = rw (place_here, clause_here)
+      go None false = refl
+      go (Some w) k = refl
 
   before_next : Before (next s (nat_abs e)) (p ++ (e ∷ [])) t
   unfolding next zeros nonzeros
@@ -124,9 +123,9 @@ unknown_of : (s : Pass) (p t : List ℤ) → Before s p t →
 unfolding after next first_place
 unknown_of s p [] b = go s.unknown
   where
-    go : (u : Unknown) → refused_at u ≡ or_later u Passed
-    go Nowhere = refl
-    go (At i k) = refl
+    go : (u : Option Unknown) → refused_at u ≡ or_later u pass
+    go None = refl
+    go (Some w) = refl
 unknown_of s p (e ∷ t) b =
     rw (append_assoc p (e ∷ []) t, length-append p (e ∷ []), add-one (length p)) at (unknown_of (next s (nat_abs e)) (p ++ (e ∷ [])) t (before_next s p e t b))
     ∙ unknown_next_lem s p e t b _

@@ -7,10 +7,10 @@ use Prim.Native.Nat.{ℕ}
 use native.Mathlib.Omega.{arith}
 use lib.IntN.{ℤ, nat_abs}
 use lib.ListN.{take, drop, take-append-drop}
-use Rattle.receipt.specs.Receipt.{done, receipt}
+use Rattle.receipt.specs.Receipt.{done, receipt, pass}
 use Rattle.receipt.specs.Answers.{checked_receipt}
-use Rattle.receipt.specs.declared.Checked.{Checked}
-use Rattle.receipt.specs.declared.Checked.TheVariants.{Passed, Refused}
+use Rattle.std.specs.Prelude.{Ok, Err}
+use Rattle.receipt.specs.Receipt.{Checked}
 use Rattle.receipt.specs.declared.Refusal.{Refusal}
 use Rattle.receipt.proofs.Numbers.{not_refused}
 use Rattle.theory.specs.Refusing.{first_refusal, RefusedFirst, table_checks}
@@ -77,19 +77,19 @@ check_empty_part ts us = check_alike (without ts)
 
 module _ {n : ℕ} {ts : List (List ℤ)} {r : Checked} (c : Call n ts r) where
   -- demand 1, of the check by itself
-  pub check_accepts : (r ≡ Passed) ↔ WithinLimits n (flatten ts)
+  pub check_accepts : (r ≡ pass) ↔ WithinLimits n (flatten ts)
   check_accepts = (λ e. (accepted_exactly n (flatten ts)).0 (sym (check_parts c) ∙ e), λ w. check_parts c ∙ (accepted_exactly n (flatten ts)).1 w)
 
   -- 18 done, place and group 0; and 18 at no other time
-  pub check_answers : (r ≡ Passed → checked_receipt r ≡ receipt done 0 0) × ((checked_receipt r).number ≡ done → r ≡ Passed)
+  pub check_answers : (r ≡ pass → checked_receipt r ≡ receipt done 0 0) × ((checked_receipt r).number ≡ done → r ≡ pass)
   check_answers = (ap checked_receipt, back r)
     where
-      back : (k : Checked) → (checked_receipt k).number ≡ done → k ≡ Passed
-      back Passed e = refl
-      back (Refused w) e = absurd (not_refused w.fault done refl e)
+      back : (k : Checked) → (checked_receipt k).number ≡ done → k ≡ pass
+      back (Ok u) e = refl
+      back (Err w) e = absurd (not_refused w.fault done refl e)
 
   -- "Tables: 1, 2, 3, 4, 5": refused exactly with the first check that refuses, of the whole list
-  pub check_refused : (w : Refusal) → (r ≡ Refused w) ↔ RefusedFirst (table_checks n (flatten ts)) w
+  pub check_refused : (w : Refusal) → (r ≡ Err w) ↔ RefusedFirst (table_checks n (flatten ts)) w
   check_refused w =
       let e : r ≡ first_refusal (table_checks n (flatten ts)) = check_parts c ∙ check_first n (flatten ts) in
       let f = first_refuses (table_checks n (flatten ts)) w in

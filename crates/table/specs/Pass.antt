@@ -3,16 +3,16 @@ use Rattle.std.specs.Prelude.{Bool, false, not, cond, List, [], ◌∷◌, ℕ, 
 use Rattle.literal.specs.declared.ClauseNumber.{ClauseNumber}
 use Rattle.literal.specs.Literal.{clause_number, max_variables, max_clauses, max_literals}
 use Rattle.receipt.specs.declared.Fault.TheVariants.{TooManyVariables, TooManyClauses, TooManyLiterals, OpenClause, UnknownVariable}
-use Rattle.receipt.specs.declared.Checked.{Checked}
-use Rattle.receipt.specs.declared.Checked.TheVariants.{Passed}
+use Rattle.std.specs.Prelude.{Option, None, Some}
+use Rattle.std.specs.Option.{option_or}
+use Rattle.receipt.specs.Receipt.{Checked, pass}
 use Rattle.theory.specs.Table.{refused}
 use Rattle.table.specs.declared.Unknown.{Unknown}
-use Rattle.table.specs.declared.Unknown.TheVariants.{Nowhere, At}
 use Rattle.table.specs.declared.Pass.{Pass}
 
 -- no element yet, of a filing with n placements
 abbrev pub begin : ℕ → Pass
-begin n = record { variables = n; clauses = 0; literals = 0; unclosed = false; unknown = Nowhere }
+begin n = record { variables = n; clauses = 0; literals = 0; unclosed = false; unknown = None }
 
 -- one past each limit: a table that has so many is refused, whatever follows
 abbrev pub enough_clauses : ℕ
@@ -36,13 +36,12 @@ abbrev pub clause_next : Pass → ClauseNumber
 clause_next s = clause_number (one_more s.clauses enough_clauses)
 
 -- the next element, of size k, if its variable is unknown
-abbrev pub unknown_next : Pass → ℕ → Unknown
-unknown_next s k = cond (ltb s.variables k) (At (place_next s) (clause_next s)) Nowhere
+abbrev pub unknown_next : Pass → ℕ → Option Unknown
+unknown_next s k = cond (ltb s.variables k) (Some (record { place = place_next s; clause = clause_next s })) None
 
 -- the first one found stays
-abbrev pub earlier : Unknown → Unknown → Unknown
-earlier Nowhere u = u
-earlier (At i k) u = At i k
+abbrev pub earlier : Option Unknown → Option Unknown → Option Unknown
+earlier = option_or
 
 -- one element more, of size k; one of size 0 closes a clause
 unfoldable pub next : Pass → ℕ → Pass
@@ -65,9 +64,9 @@ unfoldable pub after_all : Pass → List (List ℤ) → Pass
 after_all s [] = s
 after_all s (t ∷ ts) = after_all (after s t) ts
 
-abbrev pub refused_at : Unknown → Checked
-refused_at Nowhere = Passed
-refused_at (At i k) = refused (UnknownVariable k) i
+abbrev pub refused_at : Option Unknown → Checked
+refused_at None = pass
+refused_at (Some u) = refused (UnknownVariable u.clause) u.place
 
 -- "Tables: 1, 2, 3, 4, 5"
 unfoldable pub verdict : Pass → Checked

@@ -3,16 +3,17 @@
 
 ghost use Rattle.std.specs.Prelude.{◌≡◌};
 ghost use Rattle.theory.specs.Table.{check, refused};
-ghost use Rattle.table.specs.Pass.{begin, one_more, clause_next, unknown_next, earlier, next, after, verdict};
+ghost use Rattle.theory.specs.Refusing.{at_most};
+ghost use Rattle.table.specs.Pass.{begin, one_more, clause_next, unknown_next, next, after, verdict};
 
 use literal::{ClauseNumber, Literal};
-use receipt::{Checked, Fault, Refusal};
+use receipt::{Fault, Refusal};
 
-// The first entry whose size is above n: its index, and the number of its clause.
+// An entry whose size is above n: its index, and the number of its clause.
 #[derive(Clone, Copy)]
-pub enum Unknown {
-    Nowhere,
-    At(usize, ClauseNumber),
+pub struct Unknown {
+    pub place: usize,
+    pub clause: ClauseNumber,
 }
 
 // A pass over a table, wherever it stands: the number of variables; of the elements so far the closed clauses and the literals, each counted up to one past its limit,
@@ -23,7 +24,7 @@ pub struct Pass {
     pub clauses: u16,
     pub literals: u16,
     pub unclosed: bool,
-    pub unknown: Unknown,
+    pub unknown: Option<Unknown>,
 }
 
 // One past each limit. A table that has so many is refused, whatever follows, so no count goes further, and no list is too long.
@@ -37,20 +38,21 @@ fn one_more(count: u16, enough: u16) -> u16
     if count < enough { count + 1 } else { count }
 }
 
-// The first one found stays. It is made anew from its parts: a copy of it would go through memory at each element.
-fn earlier(first: Unknown, second: Unknown) -> Unknown
-    ensures { result ≡ earlier first second }
-{
-    match first {
-        Unknown::Nowhere => second,
-        Unknown::At(place, clause) => Unknown::At(place, clause),
-    }
-}
-
-pub fn refused(fault: Fault, place: usize) -> Checked
+pub fn refused(fault: Fault, place: usize) -> Result<(), Refusal>
     ensures { result ≡ refused fault place }
 {
-    Checked::Refused(Refusal::new(fault, place))
+    Err(Refusal::new(fault, place))
+}
+
+// A count above its limit is refused, at place 0.
+pub fn at_most(count: usize, limit: usize, fault: Fault) -> Result<(), Refusal>
+    ensures { result ≡ at_most count limit fault }
+{
+    if limit < count {
+        refused(fault, 0)
+    } else {
+        Ok(())
+    }
 }
 
 impl Pass {
@@ -63,7 +65,7 @@ impl Pass {
             clauses: 0,
             literals: 0,
             unclosed: false,
-            unknown: Unknown::Nowhere,
+            unknown: None,
         }
     }
 
@@ -74,41 +76,40 @@ impl Pass {
         ClauseNumber(one_more(self.clauses, ENOUGH_CLAUSES))
     }
 
-    // Whether the next element, of this size, is of an unknown variable. The counts add up to its index; past a limit they don't, and 2 or 3 speaks first. The size of
+    // The next element, of this size, where its variable is unknown. The counts add up to its index; past a limit they don't, and 2 or 3 speaks first. The size of
     // -32768 is 32768, so it is above every n that is allowed.
-    fn unknown_next(self, size: u16) -> Unknown
+    fn unknown_next(self, size: u16) -> Option<Unknown>
         ensures { result ≡ unknown_next self size }
     {
         if self.variables < size as usize {
-            return Unknown::At(
-                self.clauses as usize + self.literals as usize,
-                self.clause_next(),
-            );
+            Some(Unknown {
+                place: self.clauses as usize + self.literals as usize,
+                clause: self.clause_next(),
+            })
+        } else {
+            None
         }
-        Unknown::Nowhere
     }
 
-    // One element more, by its size.
+    // One element more, by its size. The first unknown variable stays.
+    #[tactic(auto, unfolding(crate::specs::Pass::next))]
     fn next(self, size: u16) -> Pass
         ensures { result ≡ next self size }
     {
-        let found = self.unknown;
-        let unknown = earlier(found, self.unknown_next(size));
+        let unknown = self.unknown.or(self.unknown_next(size));
         if size == 0 {
             Pass {
-                variables: self.variables,
                 clauses: one_more(self.clauses, ENOUGH_CLAUSES),
-                literals: self.literals,
                 unclosed: false,
                 unknown,
+                ..self
             }
         } else {
             Pass {
-                variables: self.variables,
-                clauses: self.clauses,
                 literals: one_more(self.literals, ENOUGH_LITERALS),
                 unclosed: true,
                 unknown,
+                ..self
             }
         }
     }
@@ -118,38 +119,45 @@ impl Pass {
         ensures { result ≡ after self part.now }
     {
         let mut pass = self;
-        for i in 0..part.len() {
-            pass = pass.next(literal::size_at(part, i));
+        for &entry in part {
+            pass = pass.next(literal::size(entry));
         }
         pass
     }
 
     // "Tables: 1, 2, 3, 4, 5": each refusal is over the whole table before the next.
-    pub fn verdict(self) -> Checked
+    #[tactic(auto, unfolding(crate::specs::Pass::verdict))]
+    pub fn verdict(self) -> Result<(), Refusal>
         ensures { result ≡ verdict self }
     {
-        if self.variables > Literal::MAX_VARIABLES {
-            return refused(Fault::TooManyVariables, 0);
-        }
-        if self.clauses as usize > Literal::MAX_CLAUSES {
-            return refused(Fault::TooManyClauses, 0);
-        }
-        if self.literals as usize > Literal::MAX_LITERALS {
-            return refused(Fault::TooManyLiterals, 0);
-        }
+        at_most(
+            self.variables,
+            Literal::MAX_VARIABLES,
+            Fault::TooManyVariables,
+        )?;
+        at_most(
+            self.clauses as usize,
+            Literal::MAX_CLAUSES,
+            Fault::TooManyClauses,
+        )?;
+        at_most(
+            self.literals as usize,
+            Literal::MAX_LITERALS,
+            Fault::TooManyLiterals,
+        )?;
         if self.unclosed {
             return refused(Fault::OpenClause, 0);
         }
-        let unknown = self.unknown;
-        match unknown {
-            Unknown::Nowhere => Checked::Passed,
-            Unknown::At(place, clause) => refused(Fault::UnknownVariable(clause), place),
+        match self.unknown {
+            Some(unknown) => refused(Fault::UnknownVariable(unknown.clause), unknown.place),
+            None => Ok(()),
         }
     }
 }
 
 // What every operation asks of a table first.
-pub fn check_table(table: &[i16], n: usize) -> Checked
+#[tactic(auto, using(crate::proofs::Passes::verdict_check))]
+pub fn check_table(table: &[i16], n: usize) -> Result<(), Refusal>
     ensures { result ≡ check n table.now }
 {
     Pass::begin(n).after(table).verdict()

@@ -3,15 +3,12 @@ use mathlib.Core.Path.{◌≡◌, ap, ◌∙◌}
 use mathlib.Core.List.{List, ◌++◌}
 use Prim.Native.Nat.{ℕ, ◌+◌, ◌-◌, ◌<◌, ◌≤◌}
 use native.Mathlib.Omega.{arith}
-use borrow.Author.Tests.{lt-ltb, le-ltb, eq-eqb, ne_eqb}
+use borrow.Author.Tests.{le-ltb, ne_eqb}
 use lib.IntN.{ℤ, pos as posℤ}
 use lib.ListN.{length, take, drop, replicate}
 use lib.Seq.{length-take-le}
-use Rattle.receipt.specs.declared.Fault.TheVariants.{UsedLengthWrong, NoClause}
-use Rattle.receipt.specs.declared.Refusal.{Refusal}
-use Rattle.receipt.specs.declared.Checked.TheVariants.{Passed, Refused}
-use Rattle.receipt.specs.declared.TakingBack.TheVariants as taking_back
-use Rattle.receipt.specs.Receipt.{refusal}
+use Rattle.std.specs.Prelude.{Ok}
+use Rattle.receipt.specs.Receipt.{pass}
 use Rattle.theory.specs.Calls.{cleared, take_back_call}
 use Rattle.theory.specs.Heads.{last_start}
 use Rattle.theory.specs.Table.{zeros, check}
@@ -19,43 +16,26 @@ use Rattle.theory.proofs.LastGroup.{last_found, last_zeros, start_inside}
 use Rattle.theory.proofs.Tables.{accepted_closed}
 use Rattle.take_back.specs.TakeBack.{called}
 
-module _ (u n : ℕ) (b : List ℤ) where
-  pub call_used : length b < u → (r : Refusal) → r ≡ refusal UsedLengthWrong 0 → called (taking_back.Refused r) b ≡ take_back_call u n b
+-- a table that isn't empty has a group
+module _ (u n : ℕ) (b : List ℤ) (room : u ≤ length b) (passed : check n (take u b) ≡ pass) (some : 0 < u) where
+  length_used : length (take u b) ≡ u
+  length_used = length-take-le u b room
+
+  some_used : 0 < length (take u b)
+  some_used = omega (arith, length_used)
+
+  pub start_before : last_start (take u b) < u
+  start_before = omega (arith, start_inside (take u b) (accepted_closed n (take u b) passed) some_used, length_used)
+
+  call_taken : called (Ok (last_start (take u b))) (cleared (last_start (take u b)) u b) ≡ take_back_call u n b
   unfolding take_back_call
-  call_used h r e = rw (lt-ltb (length b) u h, e)
+  call_taken =
+      let z = last_zeros (last_found (take u b) (accepted_closed n (take u b) passed) some_used) in
+      rw (le-ltb (length b) u room, passed, ne_eqb (zeros (take u b)) 0 (λ e. omega (arith, e, z)))
 
-  module _ (room : u ≤ length b) where
-    pub call_refused : (r : Refusal) → check n (take u b) ≡ Refused r → called (taking_back.Refused r) b ≡ take_back_call u n b
-    unfolding take_back_call
-    call_refused r e = rw (le-ltb (length b) u room, e)
-
-    module _ (passed : check n (take u b) ≡ Passed) where
-      pub call_nothing : u ≡ 0 → (r : Refusal) → r ≡ refusal NoClause 0 → called (taking_back.Refused r) b ≡ take_back_call u n b
-      unfolding take_back_call zeros
-      call_nothing z r e =
-          let k : zeros (take u b) ≡ 0 = rw z in
-          rw (le-ltb (length b) u room, passed, eq-eqb (zeros (take u b)) 0 k, e)
-
-      -- a table that isn't empty has a group
-      module _ (some : 0 < u) where
-        length_used : length (take u b) ≡ u
-        length_used = length-take-le u b room
-
-        pub some_used : 0 < length (take u b)
-        some_used = omega (arith, length_used)
-
-        pub start_before : last_start (take u b) < u
-        start_before = omega (arith, start_inside (take u b) (accepted_closed n (take u b) passed) some_used, length_used)
-
-        pub call_taken : called (taking_back.TakenBack (last_start (take u b))) (cleared (last_start (take u b)) u b) ≡ take_back_call u n b
-        unfolding take_back_call
-        call_taken =
-            let z = last_zeros (last_found (take u b) (accepted_closed n (take u b) passed) some_used) in
-            rw (le-ltb (length b) u room, passed, ne_eqb (zeros (take u b)) 0 (λ e. omega (arith, e, z)))
-
-        -- by where code finds the start, and what it clears
-        pub call_cleared : (v : ℕ) → v ≡ last_start (take u b) → (b' : List ℤ) → b' ≡ take v b ++ (replicate (u - v) (posℤ 0) ++ drop (v + (u - v)) b) →
-            called (taking_back.TakenBack v) b' ≡ take_back_call u n b
-        call_cleared v e b' i =
-            let k : v + (u - v) ≡ u = omega (arith, e, start_before) in
-            ap (called (taking_back.TakenBack v)) (rw k at i) ∙ rw e call_taken
+  -- by where code finds the start, and what it clears
+  pub call_cleared : (v : ℕ) → v ≡ last_start (take u b) → (b' : List ℤ) → b' ≡ take v b ++ (replicate (u - v) (posℤ 0) ++ drop (v + (u - v)) b) →
+      called (Ok v) b' ≡ take_back_call u n b
+  call_cleared v e b' i =
+      let k : v + (u - v) ≡ u = omega (arith, e, start_before) in
+      ap (called (Ok v)) (rw k at i) ∙ rw e call_taken

@@ -1,8 +1,7 @@
 -- When a group can be taken back, what the buffer then is, and what undoes what. (Document 02, A7.)
-use Rattle.std.specs.Prelude.{◌≡◌, List, [], ◌∷◌, ◌++◌, map, ℕ, ◌-◌, ◌≤◌, ◌<◌, ℤ, pos as posℤ, length, take, drop, replicate}
+use Rattle.std.specs.Prelude.{◌≡◌, List, [], ◌∷◌, ◌++◌, map, ℕ, ◌-◌, ◌≤◌, ◌<◌, ℤ, pos as posℤ, length, take, drop, replicate, Result}
 use Rattle.literal.specs.Literal.{literal_of}
-use Rattle.receipt.specs.declared.Adding.{Adding}
-use Rattle.receipt.specs.declared.TakingBack.{TakingBack}
+use Rattle.receipt.specs.declared.Refusal.{Refusal}
 use Rattle.receipt.specs.Answers.{adding_receipt, added_length, taking_back_receipt, length_left}
 use Rattle.receipt.specs.Receipt.{done, receipt}
 use Rattle.theory.specs.Formula.{clauses}
@@ -32,7 +31,7 @@ pub record Taken (u n : ℕ) (g b b' : List ℤ) (v : ℕ) : Type 0 where
   pub groups : clauses (take u b) ≡ clauses (take v b') ++ (map literal_of g ∷ [])
 
 -- the answer r and the buffer b'' after a group that had made the used length v was taken back, beside the buffer b before it was added to the first u elements
-pub record Restored (u v : ℕ) (b : List ℤ) (r : TakingBack) (b'' : List ℤ) : Type 0 where
+pub record Restored (u v : ℕ) (b : List ℤ) (r : Result ℕ Refusal) (b'' : List ℤ) : Type 0 where
   pub answer : taking_back_receipt r ≡ receipt done 0 0
   -- "restores the length and all elements before it"
   pub length_is : length_left r ≡ u
@@ -42,7 +41,7 @@ pub record Restored (u v : ℕ) (b : List ℤ) (r : TakingBack) (b'' : List ℤ)
   pub after : drop v b'' ≡ drop v b
 
 -- the answer s and the buffer b'' after a group that had been taken back from the first u elements of buffer b was added again
-pub record AddedBack (u : ℕ) (b : List ℤ) (s : Adding) (b'' : List ℤ) : Type 0 where
+pub record AddedBack (u : ℕ) (b : List ℤ) (s : Result ℕ Refusal) (b'' : List ℤ) : Type 0 where
   pub answer : adding_receipt s ≡ receipt 15 0 0
   pub length_is : added_length s ≡ u
   -- the whole buffer is as it was

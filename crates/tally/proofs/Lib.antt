@@ -1,4 +1,3 @@
-pub mod Parts
 pub mod Values
 pub mod Standing
 pub mod Rings

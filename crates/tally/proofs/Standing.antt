@@ -13,6 +13,7 @@ use Rattle.theory.specs.State.{State, value, standing}
 use Rattle.theory.specs.Rules.{occurs}
 use Rattle.theory.proofs.Counts.{open_count, Wide, occurs_count, count_standing}
 use Rattle.state.specs.State.{state_of}
+use Rattle.occurrences.specs.declared.Index.{Index}
 use Rattle.occurrences.specs.Index.{Indexed, clause_count, clause_of, code_at, start_at}
 use Rattle.tally.specs.Counts.{trues_of, opens_of, one_true, Exact}
 
@@ -37,11 +38,11 @@ unfolding opens_of
 opens_length s [] = omega arith
 opens_length s (l ∷ c) = omega (arith, bit_le (is_open (value s l)), opens_length s c)
 
-pub clause_length : {ix : List ℕ} → Indexed ix → (g : ℕ) → g < clause_count ix → length (clause_of ix g) < max_table
+pub clause_length : {ix : Index} → Indexed ix → (g : ℕ) → g < clause_count ix → length (clause_of ix g) < max_table
 clause_length {ix} index g h =
     omega (arith, length_from (λ i. literal_at (code_at ix i)) (start_at ix g) (start_at ix (g + 1) - 1 - start_at ix g), index.starts g h, index.stops (g + 1) (omega arith))
 
-module _ {ix v k : List ℕ} (index : Indexed ix) (exact : Exact ix v k) (g : ℕ) (inside : g < clause_count ix) where
+module _ {ix : Index} {v k : List ℕ} (index : Indexed ix) (exact : Exact ix v k) (g : ℕ) (inside : g < clause_count ix) where
   pub counted : get_or k g 0 ≡ open_count (standing (state_of v) (clause_of ix g)) + one_true * occurs TRUE (standing (state_of v) (clause_of ix g))
   counted = omega (arith, exact.is g inside, opens_standing (state_of v) (clause_of ix g), trues_standing (state_of v) (clause_of ix g))
 

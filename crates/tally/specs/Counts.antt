@@ -5,6 +5,7 @@ use Rattle.literal.specs.Literal.{TRUE, is_open, same, variables, max_clauses, m
 use Rattle.theory.specs.Formula.{Clause}
 use Rattle.theory.specs.State.{State, value}
 use Rattle.state.specs.State.{state_of}
+use Rattle.occurrences.specs.declared.Index.{Index}
 use Rattle.occurrences.specs.Index.{clause_count, clause_of, width}
 
 unfoldable pub trues_of : State → Clause → ℕ
@@ -23,7 +24,7 @@ abbrev pub two_true : ℕ
 two_true = 2 * one_true
 
 -- the counts are those of the state, and no clause has two true literals
-pub record Exact (ix values counts : List ℕ) : Type 0 where
+pub record Exact (ix : Index) (values counts : List ℕ) : Type 0 where
   pub long_values : length values ≡ variables
   pub long_counts : length counts ≡ max_clauses
   pub is : (g : ℕ) → g < clause_count ix → get_or counts g 0 ≡ opens_of (state_of values) (clause_of ix g) + one_true * trues_of (state_of values) (clause_of ix g)
@@ -35,7 +36,7 @@ load w v zero = 0
 load w v (suc n) = cond (ltb 1 (get_or v n 0)) (w n) 0 + load w v n
 
 -- how many occurrences are open: as many notes may still come
-abbrev pub room : List ℕ → List ℕ → ℕ
+abbrev pub room : Index → List ℕ → ℕ
 room ix v = load (width ix) v variables
 
 -- how many variables are open roots: as many ties may still come

@@ -2,22 +2,11 @@
 #![tactic(auto)]
 
 ghost use Rattle.std.specs.Prelude.{◌≡◌, ◌<◌, ◌≤◌};
-ghost use Rattle.literal.specs.Literal.{opposite, code_of, literal_at, max_variables, max_clauses, max_table, codes};
+ghost use Rattle.literal.specs.Literal.{opposite, code_of, literal_at, max_variables, max_clauses, codes};
 ghost use Rattle.theory.specs.State.{value};
-ghost use Rattle.occurrences.specs.Index.{code_at};
-ghost use Rattle.tally.specs.Tally.{tally_of, state_in, value_in, link_in, count_in, with_value, with_link, with_count};
+ghost use Rattle.tally.specs.Tally.{state_in, value_in, link_in, count_in, with_value, with_link, with_count};
 
 use literal::Literal;
-use occurrences::Index;
-
-// Where the parts begin: values at 0, links of the rings, counts.
-const LINKS: usize = Literal::VARIABLES;
-
-const COUNTS: usize = LINKS + Literal::VARIABLES;
-
-pub const SIZE: usize = COUNTS + Literal::MAX_CLAUSES;
-
-pub type Tally = [u16; SIZE];
 
 // A count is open literals + ONE_TRUE * true ones.
 pub const ONE_TRUE: u16 = 2 * Literal::MAX_LITERALS as u16;
@@ -31,56 +20,72 @@ pub fn opposite(x: u16) -> u16
     Literal::of_code(x).opposite().code()
 }
 
-// The code of the literal that variable p stands for.
-pub fn value_of(state: &Tally, p: usize) -> u16
-    requires { p ≤ max_variables }
-    ensures { result ≡ value_in state.now p }
-{
-    state[p]
+#[derive(Clone, Copy)]
+pub struct Tally {
+    pub values: [u16; Literal::VARIABLES],
+    pub links: [u16; Literal::VARIABLES],
+    pub counts: [u16; Literal::MAX_CLAUSES],
 }
 
-pub fn set_value(state: &mut Tally, p: usize, value: u16)
-    requires { p ≤ max_variables }
-    ensures { tally_of state.new ≡ with_value p value (tally_of state.old) }
-{
-    state[p] = value;
-}
+impl Tally {
+    // Nothing is known yet.
+    pub fn new() -> Tally {
+        Tally {
+            values: [0; Literal::VARIABLES],
+            links: [0; Literal::VARIABLES],
+            counts: [0; Literal::MAX_CLAUSES],
+        }
+    }
 
-// The next variable of the class of p, in a ring; p itself where it is alone.
-pub fn link_of(state: &Tally, p: usize) -> u16
-    requires { p ≤ max_variables }
-    ensures { result ≡ link_in state.now p }
-{
-    state[LINKS + p]
-}
+    // The code of the literal that variable p stands for.
+    pub fn value_of(&self, p: usize) -> u16
+        requires { p ≤ max_variables }
+        ensures { result ≡ value_in self.now p }
+    {
+        self.values[p]
+    }
 
-pub fn set_link(state: &mut Tally, p: usize, next: u16)
-    requires { p ≤ max_variables }
-    ensures { tally_of state.new ≡ with_link p next (tally_of state.old) }
-{
-    state[LINKS + p] = next;
-}
+    // The code of what the literal with this code stands for.
+    pub fn value_of_code(&self, code: u16) -> u16
+        requires { code < codes }
+        ensures { result ≡ code_of (value (state_in self.now) (literal_at code)) }
+    {
+        self.values[(code / 2) as usize] ^ (code % 2)
+    }
 
-pub fn count_of(state: &Tally, g: usize) -> u16
-    requires { g < max_clauses }
-    ensures { result ≡ count_in state.now g }
-{
-    state[COUNTS + g]
-}
+    pub fn set_value(&mut self, p: usize, value: u16)
+        requires { p ≤ max_variables }
+        ensures { self.new ≡ with_value p value self.old }
+    {
+        self.values[p] = value;
+    }
 
-pub fn set_count(state: &mut Tally, g: usize, count: u16)
-    requires { g < max_clauses }
-    ensures { tally_of state.new ≡ with_count g count (tally_of state.old) }
-{
-    state[COUNTS + g] = count;
-}
+    // The next variable of the class of p, in a ring; p itself where it is alone.
+    pub fn link_of(&self, p: usize) -> u16
+        requires { p ≤ max_variables }
+        ensures { result ≡ link_in self.now p }
+    {
+        self.links[p]
+    }
 
-// The code of what the literal at place i stands for.
-pub fn value_at(index: &Index, state: &Tally, i: usize) -> u16
-    requires i_lt_max_table { i < max_table }
-    requires i_bound { code_at index.now i < codes }
-    ensures { result ≡ code_of (value (state_in state.now) (literal_at (code_at index.now i))) }
-{
-    let literal = occurrences::literal_at(index, i);
-    value_of(state, (literal / 2) as usize) ^ (literal % 2)
+    pub fn set_link(&mut self, p: usize, next: u16)
+        requires { p ≤ max_variables }
+        ensures { self.new ≡ with_link p next self.old }
+    {
+        self.links[p] = next;
+    }
+
+    pub fn count_of(&self, g: usize) -> u16
+        requires { g < max_clauses }
+        ensures { result ≡ count_in self.now g }
+    {
+        self.counts[g]
+    }
+
+    pub fn set_count(&mut self, g: usize, count: u16)
+        requires { g < max_clauses }
+        ensures { self.new ≡ with_count g count self.old }
+    {
+        self.counts[g] = count;
+    }
 }

@@ -47,7 +47,3 @@ module _ (e : ℤ) (f : SFits w16 e) {v : ℕ} (s : v ≡ nat_abs (to_z w16 (of_
     rw (not_negative e (rw (to_z-of_z w16 e f) at t), ← size_is) a,
     omega (arith, a.ends, length_spaced (decimal v), short),
   )
-
-pub entry_read : {l₀ l₁ : List ℕ} {at p : ℕ} (e : ℤ) → SFits w16 e → Appended l₀ at (spaced (signed (to_z w16 (of_z w16 e)) ∷ [])) l₁ p →
-    Appended l₀ at (spaced (signed e ∷ [])) l₁ p
-entry_read e f a = rw (to_z-of_z w16 e f) at a

@@ -2,15 +2,15 @@
 use mathlib.Core.Path.{◌≡◌, refl, ap, sym, ◌∙◌}
 use mathlib.Core.List.{List, [], ◌∷◌, ◌++◌, map, append_assoc, append-nil, map-append}
 use Prim.Native.Nat.{ℕ, suc, ◌+◌, ◌*◌, ◌≤◌, ◌<◌, zero-le}
-use native.Mathlib.Nat.{mul-suc}
+use native.Mathlib.Nat.{mul-suc, mul-le-mul_left}
 use native.Mathlib.Numerals.{add-one}
 use native.Mathlib.Omega.{arith}
-use borrow.Author.Tests.{eq-eqb, ne_eqb}
 use lib.ListN.{length, take, get_or}
 use lib.Seq.{take-suc, take_all}
 use Rattle.io.specs.Digits.{last_digits, IsDigitCount}
+use Rattle.literal.specs.declared.ClauseNumber.{ClauseNumber}
 use Rattle.receipt.specs.declared.Fault.{Fault}
-use Rattle.receipt.specs.Receipt.{number_of, named_clause}
+use Rattle.receipt.specs.declared.Fault.TheVariants.{UnknownVariable}
 use Rattle.general.specs.Appending.{Appended}
 use Rattle.text.specs.Text.{codes, decimal, spaced, line, clause_words}
 use Rattle.general.specs.Appending.{append_nothing, append_both}
@@ -46,14 +46,14 @@ pub line_appended : {l₀ l₁ l₂ l₃ : List ℕ} {at p q r : ℕ} (w : List 
     Appended l₂ q (codes "\n") l₃ r → Appended l₀ at (line w ws) l₃ r
 line_appended w ws a b c = append_both a (append_both b c)
 
--- the group of a refusal, where its number is 5
-module _ {l₀ l₁ : List ℕ} {at p : ℕ} (why : Fault) where
-  pub clause_appended : number_of why ≡ 5 → Appended l₀ at (spaced (decimal (named_clause why).0 ∷ [])) l₁ p → Appended l₀ at (spaced (clause_words why)) l₁ p
-  clause_appended e a = rw (eq-eqb (number_of why) 5 e) a
+-- a refusal names no group, but for one number
+names_none : (why : Fault) → ((k : ClauseNumber) → why ≡ UnknownVariable k → ⊥) → clause_words why ≡ []
+names_none why h = elim why as (λ w. why ≡ w → clause_words w ≡ []) [ UnknownVariable k ↦ λ e. absurd (h k e) | _ ↦ λ _. refl ] refl
 
-  pub no_clause : ¬ (number_of why ≡ 5) → Appended l₀ at [] l₁ p → Appended l₀ at (spaced (clause_words why)) l₁ p
-  unfolding spaced
-  no_clause e a = rw (ne_eqb (number_of why) 5 e) a
+pub no_clause : {l₀ l₁ : List ℕ} {at p : ℕ} (why : Fault) → ((k : ClauseNumber) → why ≡ UnknownVariable k → ⊥) → Appended l₀ at [] l₁ p →
+    Appended l₀ at (spaced (clause_words why)) l₁ p
+unfolding spaced
+no_clause why h a = rw (names_none why h) a
 
 -- A loop that appends a word for each element of a list ---------------------------------------------------------
 
@@ -78,6 +78,9 @@ module _ {A : Type 0} (g : A → List ℕ) (k : ℕ) (s : List A) (l₀ : List �
       short = rw (add-one i) (omega (arith, mul-suc k i, w.short));
       words = rw (add-one i, take-suc s i d t, map-append) (words_appended (map g (take i s)) (g (get_or s i d) ∷ []) w.words a);
     }
+
+    pub list_within : next ≤ at + k * length s
+    list_within = omega (arith, w.short, mul-le-mul_left k w.reached)
 
     -- the whole list
     pub list_ended : length s ≤ i → Appended l₀ at (spaced (map g s)) l next

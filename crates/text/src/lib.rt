@@ -2,23 +2,19 @@
 // Each function appends to the bytes that stand before `at`, and answers where what it appended ends.
 #![tactic(auto)]
 
-ghost use Rattle.std.specs.Prelude.{[], ◌∷◌, map, ◌+◌, ◌*◌, ◌≤◌, length};
+ghost use Rattle.std.specs.Prelude.{List, [], ◌∷◌, map, ℕ, ◌+◌, ◌*◌, ◌≤◌, length};
 ghost use Rattle.general.specs.Appending.{Appended};
 ghost use Rattle.text.specs.Text.{decimal, signed, spaced, clause_words, refused_text};
 
 use receipt::{Fault, Refusal};
 
-// "The layout program's refused line for 5 ends with the group number."
-const NAMES_CLAUSE: u32 = 5;
-
 pub fn put_bytes(out: &mut [u8], at: usize, bytes: &[u8]) -> usize
     requires { at + length bytes.now ≤ length out.old }
     ensures { Appended out.old at bytes.now out.new result }
 {
-    for i in 0..bytes.len() {
-        out[at + i] = bytes[i];
-    }
-    at + bytes.len()
+    let end = at + bytes.len();
+    out[at..end].copy_from_slice(bytes);
+    end
 }
 
 fn put_digits(out: &mut [u8], at: usize, value: u64) -> usize
@@ -41,65 +37,75 @@ pub fn put_number(out: &mut [u8], at: usize, value: u64) -> usize
     put_digits(out, next, value)
 }
 
-// A byte, after a space: at most three digits.
-fn put_byte(out: &mut [u8], at: usize, byte: u8) -> usize
-    requires { at + 21 ≤ length out.old }
-    ensures appended { Appended out.old at (spaced (decimal byte ∷ [])) out.new result }
-    ensures upper_bound { result ≤ at + 4 }
-{
-    put_number(out, at, byte as u64)
+// A number that is printed as a word.
+pub trait Word: Copy {
+    ghost word: { Self → List ℕ };
+    // The bytes that one takes at most, with the space before it.
+    ghost most: { ℕ };
+    // Those that are asked for to print one.
+    ghost room: { ℕ };
+
+    // After a space.
+    fn put(self, out: &mut [u8], at: usize) -> usize
+        requires { at + room ≤ length out.old }
+        ensures appended { Appended out.old at (spaced (word self ∷ [])) out.new result }
+        ensures upper_bound { result ≤ at + most };
 }
 
-// An entry with its sign, after a space: at most five digits.
-fn put_entry(out: &mut [u8], at: usize, entry: i16) -> usize
-    requires { at + 22 ≤ length out.old }
-    ensures appended { Appended out.old at (spaced (signed entry ∷ [])) out.new result }
-    ensures upper_bound { result ≤ at + 7 }
-{
-    let value = literal::size(entry) as u64;
-    if entry < 0 {
-        let next = put_bytes(out, at, b" -");
-        return put_digits(out, next, value);
+// At most three digits.
+impl Word for u8 {
+    ghost word = { decimal };
+
+    ghost most = { 4 };
+
+    ghost room = { 21 };
+
+    fn put(self, out: &mut [u8], at: usize) -> usize {
+        put_number(out, at, u64::from(self))
     }
-    put_number(out, at, value)
 }
 
-pub fn put_choices(out: &mut [u8], at: usize, choices: &[u8]) -> usize
-    requires { at + 4 * length choices.now + 21 ≤ length out.old }
-    ensures appended { Appended out.old at (spaced (map decimal choices.now)) out.new result }
-    ensures upper_bound { result ≤ at + 4 * length choices.now }
+// An entry with its sign: at most five digits.
+impl Word for i16 {
+    ghost word = { signed };
+
+    ghost most = { 7 };
+
+    ghost room = { 22 };
+
+    fn put(self, out: &mut [u8], at: usize) -> usize {
+        let size = u64::from(literal::size(self));
+        if self < 0 {
+            let next = put_bytes(out, at, b" -");
+            return put_digits(out, next, size);
+        }
+        put_number(out, at, size)
+    }
+}
+
+// Each number of a list after a space.
+pub fn put_words<T: Word>(out: &mut [u8], at: usize, numbers: &[T]) -> usize
+    requires { at + T.most * length numbers.now + T.room ≤ length out.old }
+    ensures appended { Appended out.old at (spaced (map T.word numbers.now)) out.new result }
+    ensures upper_bound { result ≤ at + T.most * length numbers.now }
 {
     let mut next = at;
-    for i in 0..choices.len() {
-        next = put_byte(out, next, choices[i]);
+    for &number in numbers {
+        next = number.put(out, next);
     }
     next
 }
 
-pub fn put_entries(out: &mut [u8], at: usize, entries: &[i16]) -> usize
-    requires { at + 7 * length entries.now + 22 ≤ length out.old }
-    ensures appended { Appended out.old at (spaced (map signed entries.now)) out.new result }
-    ensures upper_bound { result ≤ at + 7 * length entries.now }
-{
-    let mut next = at;
-    for i in 0..entries.len() {
-        next = put_entry(out, next, entries[i]);
-    }
-    next
-}
-
-// The group that a refusal names, after a space.
+// The group that a refusal names, after a space: "The layout program's refused line for 5 ends with the group number."
 fn put_clause(out: &mut [u8], at: usize, fault: Fault) -> usize
     requires { at + 21 ≤ length out.old }
     ensures appended { Appended out.old at (spaced (clause_words fault)) out.new result }
     ensures upper_bound { result ≤ at + 21 }
 {
-    let number = fault.number();
-    if number == NAMES_CLAUSE {
-        let clause = fault.clause();
-        return put_number(out, at, clause.0 as u64);
+    match fault {
+        Fault::UnknownVariable(clause) => put_number(out, at, u64::from(clause.0)),
+        _ => at,
     }
-    at
 }
 
 // The line of a refusal, at the front.
@@ -107,12 +113,11 @@ pub fn put_refusal(out: &mut [u8], refusal: Refusal) -> usize
     requires { 71 ≤ length out.old }
     ensures { Appended out.old 0 (refused_text refusal) out.new result }
 {
-    let fault = refusal.fault;
-    let number = fault.number() as u64;
-    let place = refusal.place as u64;
+    let Refusal { fault, place } = refusal;
+    let number = u64::from(fault.number());
     let word = put_bytes(out, 0, b"refused");
     let first = put_number(out, word, number);
-    let second = put_number(out, first, place);
+    let second = put_number(out, first, place as u64);
     let third = put_clause(out, second, fault);
     put_bytes(out, third, b"\n")
 }

@@ -2,8 +2,8 @@
 use mathlib.Core.Path.{◌≡◌, refl, ap, sym, ◌∙◌}
 use mathlib.Core.Bool.{true, false, not, ◌&&◌}
 use mathlib.Core.Logic.{◌⊎◌, inl, inr, ◌≢◌, ⊎_elim}
-use mathlib.Core.Option
-use mathlib.Core.Option.{Option, none, some, none-ne-some, some-injective}
+use Rattle.std.specs.Prelude.{Option, None, Some, option_map}
+use Rattle.std.proofs.lemmas.Option.{none-some, same_Some}
 use mathlib.Core.List.{List, [], ◌∷◌, map, Memᴰ}
 use Prim.Native.Nat.{ℕ, suc, ◌+◌, ◌-◌, ◌<◌, ◌≤◌}
 use native.Mathlib.Omega.{arith}
@@ -147,10 +147,10 @@ module _ (c : Clause) (f : NoFalse c) where
   none_true_open : none_true c ≡ true → (x : Literal) → Memᴰ x c → 0 < var x
   none_true_open e x m = open_of x (not_true_of c x (eqb-true (occurs TRUE c) 0 e) m) (f x m)
 
-  rule1_one : (s : Step) → rule1 c ≡ some s → One c s
+  rule1_one : (s : Step) → rule1 c ≡ Some s → One c s
   rule1_one s e =
-      let w = cond_some _ (some DeadEnd) s e in
-      rw (← some-injective DeadEnd s w.1) (⊎_elim
+      let w = cond_some _ (Some DeadEnd) s e in
+      rw (← same_Some DeadEnd s w.1) (⊎_elim
       (λ h. inl (leb-true 2 (occurs TRUE c) h))
       (λ h. inr (empty c (eqb-true (length c) 0 h)))
       (or-true (leb 2 (occurs TRUE c)) (eqb (length c) 0) w.0))
@@ -159,21 +159,21 @@ module _ (c : Clause) (f : NoFalse c) where
       empty [] h = refl
       empty (x ∷ d) h = absurd (omega arith)
 
-  rule2_one : (s : Step) → rule2 c ≡ some s → One c s
+  rule2_one : (s : Step) → rule2 c ≡ Some s → One c s
   rule2_one s e =
       let w = cond_some _ _ s e in
       let m = map_some (λ x. Becomes x FALSE) (find is_open c) s w.1 in
       let x = find_some is_open c m.0 m.1 in
       rw (← m.2) (one_true_lem (occurs_mem c TRUE (let h = eqb-true (occurs TRUE c) 1 w.0 in omega arith)) x.0 (ltb-true 0 (var m.0) x.1))
 
-  rule4_one : (s : Step) → rule4 c ≡ some s → One c s
+  rule4_one : (s : Step) → rule4 c ≡ Some s → One c s
   rule4_one s e =
       let w = cond_some _ _ s e in
       let m = map_some (λ x. Becomes x FALSE) (find (λ x. leb 2 (occurs x c)) c) s w.1 in
       let x = find_some (λ x. leb 2 (occurs x c)) c m.0 m.1 in
       rw (← m.2) (stands_twice (leb-true 2 (occurs m.0 c) x.1) (none_true_open w.0 m.0 x.0))
 
-  rule5_one : (s : Step) → rule5 c ≡ some s → One c s
+  rule5_one : (s : Step) → rule5 c ≡ Some s → One c s
   rule5_one s e =
       let w = cond_some _ _ s e in
       let m = map_some (λ x. Becomes x FALSE) _ s w.1 in
@@ -183,29 +183,29 @@ module _ (c : Clause) (f : NoFalse c) where
       rw (← m.2)
       (opposites b.0 y.0 (stands_mem c (opposite b.0) y.1) x.0 (none_true_open w.0 m.0 x.0) (λ q. differs b.0 m.0 x.1 (sym q)))
 
-rule3_one : (c : Clause) (s : Step) → rule3 c ≡ some s → One c s
-rule3_one [] s e = absurd (none-ne-some s e)
+rule3_one : (c : Clause) (s : Step) → rule3 c ≡ Some s → One c s
+rule3_one [] s e = absurd (none-some s e)
 rule3_one (x ∷ []) s e =
-    let w = cond_some (is_open x) (some (Becomes x TRUE)) s e in
-    rw (← some-injective (Becomes x TRUE) s w.1) (only_one refl (ltb-true 0 (var x) w.0))
-rule3_one (x ∷ y ∷ c) s e = absurd (none-ne-some s e)
+    let w = cond_some (is_open x) (Some (Becomes x TRUE)) s e in
+    rw (← same_Some (Becomes x TRUE) s w.1) (only_one refl (ltb-true 0 (var x) w.0))
+rule3_one (x ∷ y ∷ c) s e = absurd (none-some s e)
 
-rule6_one : (c : Clause) (s : Step) → rule6 c ≡ some s → One c s
-rule6_one [] s e = absurd (none-ne-some s e)
-rule6_one (x ∷ []) s e = absurd (none-ne-some s e)
+rule6_one : (c : Clause) (s : Step) → rule6 c ≡ Some s → One c s
+rule6_one [] s e = absurd (none-some s e)
+rule6_one (x ∷ []) s e = absurd (none-some s e)
 rule6_one (x ∷ y ∷ []) s e =
-    let w = cond_some (is_open x && is_open y && differ x y) (some (tie x y)) s e in
+    let w = cond_some (is_open x && is_open y && differ x y) (Some (tie x y)) s e in
     let a = and_true (is_open x && is_open y) (differ x y) w.0 in
     let b = and_true (is_open x) (is_open y) a.0 in
-    rw (← some-injective (tie x y) s w.1) (tied (One (x ∷ y ∷ [])) x y (differs x y a.1)
+    rw (← same_Some (tie x y) s w.1) (tied (One (x ∷ y ∷ [])) x y (differs x y a.1)
     (λ z t h. only_two x y refl (ltb-true 0 (var x) b.0) (ltb-true 0 (var y) b.1) h))
-rule6_one (x ∷ y ∷ z ∷ c) s e = absurd (none-ne-some s e)
+rule6_one (x ∷ y ∷ z ∷ c) s e = absurd (none-some s e)
 
 module _ (g h : Clause) (f : NoFalse g) where
   live_open : (live g && live h) ≡ true → (x : Literal) → Memᴰ x g → 0 < var x
   live_open e = none_true_open g f (and_true (none_true g) _ (and_true (live g) (live h) e).0).0
 
-  pub rule7_two : (s : Step) → rule7 g h ≡ some s → Two g h s
+  pub rule7_two : (s : Step) → rule7 g h ≡ Some s → Two g h s
   rule7_two s e =
       let w = cond_some _ _ s e in
       let m = map_some (λ x. Becomes x FALSE) _ s w.1 in
@@ -216,10 +216,10 @@ module _ (g h : Clause) (f : NoFalse g) where
       rw (← m.2)
       (common y.0 x.0 (stands_mem h m.0 a.0) y.1 (stands_mem h (opposite y.0) b.0) (live_open w.0 m.0 x.0) (differs m.0 y.0 b.1))
 
-  pub rule8_two : (s : Step) → rule8 g h ≡ some s → Two g h s
+  pub rule8_two : (s : Step) → rule8 g h ≡ Some s → Two g h s
   rule8_two s e =
       let w = cond_some _ _ s e in
-      let b = bind_some (pair_in g h) (λ x. Option.map (tie x) (partner g h x)) s w.1 in
+      let b = bind_some (pair_in g h) (λ x. option_map (tie x) (partner g h x)) s w.1 in
       let m = map_some (tie b.0) (partner g h b.0) s b.2 in
       let x = find_some (λ x. stands (opposite x) h && not (is_none (partner g h x))) g b.0 b.1 in
       let y = find_some (λ y. stands (opposite y) h && differ b.0 y) g m.0 m.1 in
@@ -244,28 +244,28 @@ numbered_later m = record { index = suc m.index; inside = omega (arith, m.inside
 
 -- the first clause, or the first pair, is one of the formula's; the number is that of the clause, of a pair that of the later one
 module _ {A : Type 0} (look : A → Clause) where
-  clause_some : (rule : Clause → Option Step) (k : ℕ) (f : List A) (a : Asked) → first_clause rule k (map look f) ≡ some a →
-      (c : A) × Memᴰ c f × Numbered k f c a.clause.0 × (rule (look c) ≡ some a.step)
+  clause_some : (rule : Clause → Option Step) (k : ℕ) (f : List A) (a : Asked) → first_clause rule k (map look f) ≡ Some a →
+      (c : A) × Memᴰ c f × Numbered k f c a.clause.0 × (rule (look c) ≡ Some a.step)
   unfolding first_clause
-  clause_some rule k [] a e = absurd (none-ne-some a e)
+  clause_some rule k [] a e = absurd (none-some a e)
   clause_some rule k (c ∷ f) a e = ⊎_elim
       (λ h.
       let m = map_some _ (rule (look c)) a h in
-      (c, mathlib.Core.List.Memᴰ.head refl, numbered_first (ap (λ (b : Asked). b.clause.0) m.2), m.1 ∙ ap some (ap (λ (b : Asked). b.step) m.2)))
+      (c, mathlib.Core.List.Memᴰ.head refl, numbered_first (ap (λ (b : Asked). b.clause.0) m.2), m.1 ∙ ap Some (ap (λ (b : Asked). b.step) m.2)))
       (λ h. let w = clause_some rule (suc k) f a h in (w.0, mathlib.Core.List.Memᴰ.tail w.1, numbered_later w.2, w.3))
       (or_else_some _ (first_clause rule (suc k) (map look f)) a e)
 
-  pub clause_none : (rule : Clause → Option Step) (k : ℕ) {c : A} (f : List A) → first_clause rule k (map look f) ≡ none → Memᴰ c f → rule (look c) ≡ none
+  pub clause_none : (rule : Clause → Option Step) (k : ℕ) {c : A} (f : List A) → first_clause rule k (map look f) ≡ None → Memᴰ c f → rule (look c) ≡ None
   unfolding first_clause
   clause_none rule k [] e m = absurd (mathlib.Core.List.Memᴰ.not-nil m)
   clause_none rule k {c} (d ∷ f) e m =
       let w = or_else_none _ (first_clause rule (suc k) (map look f)) e in
       ⊎_elim (λ (q : c ≡ d). rw q (map_none _ (rule (look d)) w.0)) (clause_none rule (suc k) f w.1) (mathlib.Core.List.Memᴰ.cases_cons m)
 
-  pair_some : (rule : Clause → Clause → Option Step) (k : ℕ) (f : List A) (a : Asked) → first_pair rule k (map look f) ≡ some a →
-      (g : A) × (h : A) × (j : ℕ) × Before g h f × Numbered k f g j × Numbered k f h a.clause.0 × (j < a.clause.0) × (rule (look g) (look h) ≡ some a.step)
+  pair_some : (rule : Clause → Clause → Option Step) (k : ℕ) (f : List A) (a : Asked) → first_pair rule k (map look f) ≡ Some a →
+      (g : A) × (h : A) × (j : ℕ) × Before g h f × Numbered k f g j × Numbered k f h a.clause.0 × (j < a.clause.0) × (rule (look g) (look h) ≡ Some a.step)
   unfolding first_pair
-  pair_some rule k [] a e = absurd (none-ne-some a e)
+  pair_some rule k [] a e = absurd (none-some a e)
   pair_some rule k (c ∷ f) a e = ⊎_elim
       (λ h.
       let w = clause_some (rule (look c)) (suc k) f a h in
@@ -273,7 +273,7 @@ module _ {A : Type 0} (look : A → Clause) where
       (λ h. let w = pair_some rule (suc k) f a h in (w.0, w.1, w.2, later w.3, numbered_later w.4, numbered_later w.5, w.6, w.7))
       (or_else_some (first_clause (rule (look c)) (suc k) (map look f)) (first_pair rule (suc k) (map look f)) a e)
 
-  pub pair_none : (rule : Clause → Clause → Option Step) {g h : A} (k : ℕ) {f : List A} → first_pair rule k (map look f) ≡ none → Before g h f → rule (look g) (look h) ≡ none
+  pub pair_none : (rule : Clause → Clause → Option Step) {g h : A} (k : ℕ) {f : List A} → first_pair rule k (map look f) ≡ None → Before g h f → rule (look g) (look h) ≡ None
   unfolding first_pair
   pair_none rule {g = g} k e (here {l = f} m) =
       clause_none (rule (look g)) (suc k) f (or_else_none (first_clause (rule (look g)) (suc k) (map look f)) (first_pair rule (suc k) (map look f)) e).0 m
@@ -281,7 +281,7 @@ module _ {A : Type 0} (look : A → Clause) where
       pair_none rule (suc k) (or_else_none (first_clause (rule (look z)) (suc k) (map look f)) (first_pair rule (suc k) (map look f)) e).1 b
 
 -- what the rules of one clause, and of two, say of the step that they ask
-one_of : (rule : Clause → Option Step) → Memᴰ rule clause_rules → (c : Clause) → NoFalse c → (d : Step) → rule c ≡ some d → One c d
+one_of : (rule : Clause → Option Step) → Memᴰ rule clause_rules → (c : Clause) → NoFalse c → (d : Step) → rule c ≡ Some d → One c d
 one_of rule m c f d e =
     ⊎_elim (λ (q : rule ≡ rule1). rule1_one c f d (rw q at e))
     (λ m. ⊎_elim (λ (q : rule ≡ rule2). rule2_one c f d (rw q at e))
@@ -292,7 +292,7 @@ one_of rule m c f d e =
     (λ m. absurd (mathlib.Core.List.Memᴰ.not-nil m))
     (mathlib.Core.List.Memᴰ.cases_cons m)) (mathlib.Core.List.Memᴰ.cases_cons m)) (mathlib.Core.List.Memᴰ.cases_cons m)) (mathlib.Core.List.Memᴰ.cases_cons m)) (mathlib.Core.List.Memᴰ.cases_cons m)) (mathlib.Core.List.Memᴰ.cases_cons m)
 
-two_of : (rule : Clause → Clause → Option Step) → Memᴰ rule pair_rules → (g h : Clause) → NoFalse g → (d : Step) → rule g h ≡ some d → Two g h d
+two_of : (rule : Clause → Clause → Option Step) → Memᴰ rule pair_rules → (g h : Clause) → NoFalse g → (d : Step) → rule g h ≡ Some d → Two g h d
 two_of rule m g h f d e =
     ⊎_elim (λ (q : rule ≡ rule7). rule7_two g h f d (rw q at e))
     (λ m. ⊎_elim (λ (q : rule ≡ rule8). rule8_two g h f d (rw q at e)) (λ m. absurd (mathlib.Core.List.Memᴰ.not-nil m)) (mathlib.Core.List.Memᴰ.cases_cons m))
@@ -301,16 +301,16 @@ two_of rule m g h f d e =
 -- the step of the fixed order is asked by a rule of one clause, or of two
 module _ (f : Formula) (s : State) (a : Asked) {P : Type 0}
     (one : (c : Clause) → Memᴰ c f → Numbered 1 f c a.clause.0 →
-    (rule : Clause → Option Step) → Memᴰ rule clause_rules → rule (standing s c) ≡ some a.step → P)
+    (rule : Clause → Option Step) → Memᴰ rule clause_rules → rule (standing s c) ≡ Some a.step → P)
     (two : (g h : Clause) → Before g h f → (j : ℕ) → Numbered 1 f g j → Numbered 1 f h a.clause.0 → j < a.clause.0 →
-    (rule : Clause → Clause → Option Step) → Memᴰ rule pair_rules → rule (standing s g) (standing s h) ≡ some a.step → P) where
-  from_one : (rule : Clause → Option Step) → Memᴰ rule clause_rules → first_clause rule 1 (map (standing s) f) ≡ some a → P
+    (rule : Clause → Clause → Option Step) → Memᴰ rule pair_rules → rule (standing s g) (standing s h) ≡ Some a.step → P) where
+  from_one : (rule : Clause → Option Step) → Memᴰ rule clause_rules → first_clause rule 1 (map (standing s) f) ≡ Some a → P
   from_one rule i e = let w = clause_some (standing s) rule 1 f a e in one w.0 w.1 w.2 rule i w.3
 
-  from_two : (rule : Clause → Clause → Option Step) → Memᴰ rule pair_rules → first_pair rule 1 (map (standing s) f) ≡ some a → P
+  from_two : (rule : Clause → Clause → Option Step) → Memᴰ rule pair_rules → first_pair rule 1 (map (standing s) f) ≡ Some a → P
   from_two rule i e = let w = pair_some (standing s) rule 1 f a e in two w.0 w.1 w.3 w.2 w.4 w.5 w.6 rule i w.7
 
-  step_cases : step f s ≡ some a → P
+  step_cases : step f s ≡ Some a → P
   unfolding ask
   step_cases e =
       ⊎_elim (from_one rule1 (mathlib.Core.List.Memᴰ.head refl))
@@ -324,7 +324,7 @@ module _ (f : Formula) (s : State) (a : Asked) {P : Type 0}
 
 -- so some rule allows it
 module _ (f : Formula) (s : State) (a : Asked) where
-  pub step_allowed : step f s ≡ some a → Allowed f s a.step
+  pub step_allowed : step f s ≡ Some a → Allowed f s a.step
   step_allowed = step_cases f s a
       (λ c m k rule i e. by_clause a.step c m (one_of rule i (standing s c) (standing_no_false s c) a.step e))
       (λ g h b j k l i rule m e. by_pair a.step g h b (two_of rule m (standing s g) (standing s h) (standing_no_false s g) a.step e))
@@ -337,7 +337,7 @@ module _ (f : Formula) (s : State) (a : Asked) where
       by_pair DeadEnd g h b k = absurd k
       by_pair (Becomes x t) g h b k = by_two g h b k
 
-  pub asked_allowed : {x t : Literal} → step f s ≡ some a → a.step ≡ Becomes x t → Asks f s x t
+  pub asked_allowed : {x t : Literal} → step f s ≡ Some a → a.step ≡ Becomes x t → Asks f s x t
   asked_allowed asked e = rw e at (step_allowed asked)
 
 -- Which clause asks the step ---------------------------------------------------------------------------------------
@@ -368,13 +368,13 @@ two_holds (crossed {x = x} y z yg yh zg zh oy oz k) = ⊎_elim
 
 module _ (f : Formula) (s : State) (a : Asked) where
   -- of a pair the later one
-  pub step_asker : step f s ≡ some a → AskedOf f s a.clause.0 a.step
+  pub step_asker : step f s ≡ Some a → AskedOf f s a.clause.0 a.step
   step_asker = step_cases f s a
       (λ c m k rule i e. alone rule i (rw (numbered_clause k) e))
       (λ g h b j k l i rule m e. paired rule m j (omega (arith, k.number)) i (rw (numbered_clause k, numbered_clause l) e))
 
   -- it holds the variable that the step settles or ties, or one that is tied to it
-  pub step_holds : {x t : Literal} → step f s ≡ some a → a.step ≡ Becomes x t → Holds f s a.clause.0 (var x)
+  pub step_holds : {x t : Literal} → step f s ≡ Some a → a.step ≡ Becomes x t → Holds f s a.clause.0 (var x)
   step_holds {x} {t} asked e = step_cases f s a
       (λ c m k rule i h.
       let o : AsksOne (standing s c) x t = rw e at (one_of rule i (standing s c) (standing_no_false s c) a.step h) in
@@ -398,10 +398,10 @@ module _ (f : Formula) (s : State) (a : Asked) where
 -- where the fixed order asks nothing, no rule fits
 pub record Rests (f : Formula) (s : State) : Type 0 where
   pub quiet : (c : Clause) → Memᴰ c f → Quiet (standing s c)
-  pub quiet7 : (g h : Clause) → Before g h f → rule7 (standing s g) (standing s h) ≡ none
-  pub quiet8 : (g h : Clause) → Before g h f → rule8 (standing s g) (standing s h) ≡ none
+  pub quiet7 : (g h : Clause) → Before g h f → rule7 (standing s g) (standing s h) ≡ None
+  pub quiet8 : (g h : Clause) → Before g h f → rule8 (standing s g) (standing s h) ≡ None
 
-pub step_rests : (f : Formula) (s : State) → step f s ≡ none → Rests f s
+pub step_rests : (f : Formula) (s : State) → step f s ≡ None → Rests f s
 unfolding ask
 step_rests f s e =
     let e1 = or_else_none _ _ e in

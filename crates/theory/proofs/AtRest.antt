@@ -1,7 +1,8 @@
 -- Where steps in any order may stop: counts say that rules 1 to 6 fit no clause, an empty list of pairs that 7 and 8 fit none; there settling ends too.
 use mathlib.Core.Path.{◌≡◌, refl, ap}
 use mathlib.Core.Logic.{⊎_elim}
-use mathlib.Core.Option.{Option, none, or_else}
+use Rattle.std.specs.Prelude.{Option, None}
+use Rattle.std.specs.Option.{option_or}
 use mathlib.Core.List.{List, [], ◌∷◌, map, Memᴰ}
 use Prim.Native.Nat.{ℕ, suc}
 use native.Mathlib.Omega.{arith}
@@ -23,20 +24,20 @@ use Rattle.theory.proofs.Splits.{settle_ends}
 -- where no rule fits the fixed order asks nothing ----------------------------------------------------------------
 
 module _ {A : Type 0} (look : A → Clause) where
-  none_asks : (rule : Clause → Option Step) (k : ℕ) (f : List A) → ((c : A) → Memᴰ c f → rule (look c) ≡ none) → first_clause rule k (map look f) ≡ none
-  unfolding first_clause or_else
+  none_asks : (rule : Clause → Option Step) (k : ℕ) (f : List A) → ((c : A) → Memᴰ c f → rule (look c) ≡ None) → first_clause rule k (map look f) ≡ None
+  unfolding first_clause
   none_asks rule k [] h = refl
   none_asks rule k (c ∷ f) h = rw (h c (Memᴰ.head refl)) (none_asks rule (suc k) f (λ d m. h d (Memᴰ.tail m)))
 
-  no_pair_asks : (rule : Clause → Clause → Option Step) (k : ℕ) (f : List A) → ((g h : A) → Before g h f → rule (look g) (look h) ≡ none) →
-      first_pair rule k (map look f) ≡ none
-  unfolding first_pair or_else
+  no_pair_asks : (rule : Clause → Clause → Option Step) (k : ℕ) (f : List A) → ((g h : A) → Before g h f → rule (look g) (look h) ≡ None) →
+      first_pair rule k (map look f) ≡ None
+  unfolding first_pair
   no_pair_asks rule k [] h = refl
   no_pair_asks rule k (c ∷ f) h =
       rw (none_asks (rule (look c)) (suc k) f (λ d m. h c d (here m))) (no_pair_asks rule (suc k) f (λ g d b. h g d (later b)))
 
-pub rests_step : {f : Formula} {s : State} → Rests f s → step f s ≡ none
-unfolding ask or_else
+pub rests_step : {f : Formula} {s : State} → Rests f s → step f s ≡ None
+unfolding ask
 rests_step {f} {s} r =
     rw (
       none_asks (standing s) rule1 1 f (λ c m. (r.quiet c m).quiet1),

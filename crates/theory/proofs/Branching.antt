@@ -2,7 +2,7 @@
 use mathlib.Core.Path.{◌≡◌, refl, sym, ◌∙◌}
 use mathlib.Core.Bool.{true, false, cond}
 use mathlib.Core.Logic.{inl, inr, ⊎_elim, ◌↔◌}
-use mathlib.Core.Option.{Option, none, some}
+use Rattle.std.specs.Prelude.{Option, None, Some}
 use mathlib.Core.List.{Memᴰ}
 use Prim.Native.Nat.{ℕ, ◌<◌, ◌≤◌}
 use native.Mathlib.Omega.{arith}
@@ -123,5 +123,5 @@ module _ {n : ℕ} {f : Formula} {s : State} (w : WellFormed n s) (within : With
   split_on_means = go (branch_variable f s) (branch_least f s closed)
     where
       go : (o : Option ℕ) → IsLeast ◌≤◌ (InLive f s) o → Means (WellFormed n) (λ u. opens u n) (Extends n f) ◌≼◌ s (split_on n s o)
-      go none h = leaf_first w within closed h
-      go (some p) h = branch_branches p h
+      go None h = leaf_first w within closed h
+      go (Some p) h = branch_branches p h

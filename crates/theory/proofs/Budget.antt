@@ -11,7 +11,7 @@ use lib.ListN.{length}
 use Rattle.literal.specs.declared.Literal.{Literal}
 use Rattle.literal.specs.declared.Literal.TheVariants.{Pos, Neg}
 use Rattle.receipt.specs.declared.Outcome.TheVariants.{LaidOut, NoLayout, Stopped}
-use Rattle.theory.specs.Tree.{branch, Found, Run, run, through, tried, visit, Result, result, finished, finish, stop, limited}
+use Rattle.theory.specs.Tree.{branch, Found, Run, run, through, tried, visit, Limited, result, finished, finish, stop, limited}
 
 finished_not_stopped : {A : Type 0} (l : List (Found A)) → ¬ (finished l ≡ Stopped)
 finished_not_stopped [] e = let z : ◌≡◌ {A = ℕ} 0 1 = cc in omega arith
@@ -78,7 +78,7 @@ larger_budget b b' r q h = elim (dec_le r.splits b) [
 -- A split under an allowance: the first side may use what is left after it, the second side what the first side leaves.
 
 -- a side as the split makes it: k splits more, and each path leads through that side
-abbrev pub past : {A : Type 0} → ℕ → Literal → Result A → Result A
+abbrev pub past : {A : Type 0} → ℕ → Literal → Limited A → Limited A
 past k x v = result v.outcome (k + v.count) (through x v.found)
 
 finished_through : {A : Type 0} (x : Literal) (l : List (Found A)) → finished l ≡ finished (through x l)

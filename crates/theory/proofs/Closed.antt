@@ -2,7 +2,8 @@
 use mathlib.Core.Path.{◌≡◌, refl, ap, sym, ◌∙◌}
 use mathlib.Core.Bool.{true, not, ◌&&◌, and-false}
 use mathlib.Core.Logic.{◌≢◌, ⊎_elim}
-use mathlib.Core.Option.{Option, none, some, map, some-ne-none}
+use Rattle.std.specs.Prelude.{Option, None, Some, option_map}
+use Rattle.general.specs.Options.{some-ne-none}
 use mathlib.Core.List.{[], ◌∷◌, Memᴰ}
 use Prim.Native.Nat.{◌+◌, ◌<◌, ◌≤◌}
 use native.Mathlib.Omega.{arith}
@@ -35,12 +36,12 @@ pub data Closed : Clause → Type 0 where
 
 -- rules 1 to 6 fit nowhere in c
 pub record Quiet (c : Clause) : Type 0 where
-  pub quiet1 : rule1 c ≡ none
-  pub quiet2 : rule2 c ≡ none
-  pub quiet3 : rule3 c ≡ none
-  pub quiet4 : rule4 c ≡ none
-  pub quiet5 : rule5 c ≡ none
-  pub quiet6 : rule6 c ≡ none
+  pub quiet1 : rule1 c ≡ None
+  pub quiet2 : rule2 c ≡ None
+  pub quiet3 : rule3 c ≡ None
+  pub quiet4 : rule4 c ≡ None
+  pub quiet5 : rule5 c ≡ None
+  pub quiet6 : rule6 c ≡ None
 
 abbrev pub NoFalse : Clause → Type 0
 NoFalse c = (x : Literal) → Memᴰ x c → x ≢ FALSE
@@ -84,7 +85,7 @@ module _ (c : Clause) (no_false : NoFalse c) (q : Quiet c) (no_true : occurs TRU
   ]
 
   -- where an entry and its opposite stand, nothing of another variable does
-  quiet_alone : (x : Literal) → complementary c ≡ some x → (y : Literal) → Memᴰ y c → var x ≡ var y
+  quiet_alone : (x : Literal) → complementary c ≡ Some x → (y : Literal) → Memᴰ y c → var x ≡ var y
   quiet_alone x e y m =
       eqb-true (var x) (var y) (not-false _ (find_none (λ y. differ x y) c (bind_none (complementary c) (other c) x (map_none _ _ (cond_none _ _ q.quiet5 silent)) e) y m))
 
@@ -124,13 +125,13 @@ closed_many x y z c f q o = go (complementary (x ∷ y ∷ z ∷ c)) refl
     d = x ∷ y ∷ z ∷ c
 
     go : (m : Option Literal) → complementary d ≡ m → Closed d
-    go none e = alive (record {
+    go None e = alive (record {
       opened = quiet_opened d f q o;
       once = quiet_once d f q o;
       apart = λ l m. let k = ltb-false 0 (occurs (opposite l) d) (find_none (λ l. stands (opposite l) d) d e l m) in omega arith;
       three = omega arith;
     })
-    go (some l) e =
+    go (Some l) e =
         let same_as : (k : Literal) → Memᴰ k d → var l ≡ var k = quiet_alone d f q o l e in
         let a : var l ≡ var x = same_as x (Memᴰ.head refl) in
         let b : var l ≡ var y = same_as y (Memᴰ.tail (Memᴰ.head refl)) in
@@ -168,12 +169,12 @@ module _ {c : Clause} (a : Alive c) where
   pub alive_none_true : occurs TRUE c ≡ 0
   alive_none_true = elim (ℕ_discrete (occurs TRUE c) 0) [ yes e ↦ e | no h ↦ absurd (omega (arith, a.opened TRUE (occurs_mem c TRUE (omega arith)))) ]
 
-  alive_complementary : complementary c ≡ none
+  alive_complementary : complementary c ≡ None
   alive_complementary = go (complementary c) refl
     where
-      go : (m : Option Literal) → complementary c ≡ m → m ≡ none
-      go none e = refl
-      go (some x) e =
+      go : (m : Option Literal) → complementary c ≡ m → m ≡ None
+      go None e = refl
+      go (Some x) e =
           let w = find_some (λ l. stands (opposite l) c) c x e in
           absurd (omega (arith, mem_occurs c (opposite x) (stands_mem c (opposite x) w.1), a.apart x w.0))
 
@@ -185,31 +186,31 @@ alive_both a b = and_intro (alive_live a) (alive_live b)
 
 -- two live clauses, the first before the second: rules 7 and 8 do not fit
 module _ {g h : Clause} (both : (live g && live h) ≡ true) where
-  pub no_common : rule7 g h ≡ none → (x y : Literal) → Memᴰ x g → Memᴰ x h → Memᴰ y g → Memᴰ (opposite y) h → var x ≢ var y → ⊥
+  pub no_common : rule7 g h ≡ None → (x y : Literal) → Memᴰ x g → Memᴰ x h → Memᴰ y g → Memᴰ (opposite y) h → var x ≢ var y → ⊥
   no_common e x y xg xh yg yh d =
       true_not_false
       (and_intro (mem_stands h x xh) (any_intro (λ y. stands (opposite y) h && differ x y) g y yg (and_intro (mem_stands h (opposite y) yh) (rw (ne_eqb (var x) (var y) d)))))
       (find_none (λ x. stands x h && any (λ y. stands (opposite y) h && differ x y) g) g (map_none _ _ (cond_none _ _ e both)) x xg)
 
-  pub no_crossed : rule8 g h ≡ none → (x y : Literal) → Memᴰ x g → Memᴰ (opposite x) h → Memᴰ y g → Memᴰ (opposite y) h → var x ≢ var y → ⊥
+  pub no_crossed : rule8 g h ≡ None → (x y : Literal) → Memᴰ x g → Memᴰ (opposite x) h → Memᴰ y g → Memᴰ (opposite y) h → var x ≢ var y → ⊥
   no_crossed e x y xg xh yg yh d = go (partner g h x) refl
     where
       pairs : Option Literal
       pairs = pair_in g h
 
       -- x has a partner, so some pair is found
-      none_found : (z : Literal) → pairs ≡ some z → ⊥
+      none_found : (z : Literal) → pairs ≡ Some z → ⊥
       none_found z p =
           let w = find_some (λ x. stands (opposite x) h && not (is_none (partner g h x))) g z p in
-          let k : partner g h z ≡ none = map_none (tie z) (partner g h z) (bind_none pairs (λ x. map (tie x) (partner g h x)) z (cond_none _ _ e both) p) in
+          let k : partner g h z ≡ None = map_none (tie z) (partner g h z) (bind_none pairs (λ x. option_map (tie x) (partner g h x)) z (cond_none _ _ e both) p) in
           true_not_false (rw k at w.1) (and-false (stands (opposite z) h))
 
       go : (m : Option Literal) → partner g h x ≡ m → ⊥
-      go none q = true_not_false (and_intro (mem_stands h (opposite y) yh) (rw (ne_eqb (var x) (var y) d))) (find_none (λ y. stands (opposite y) h && differ x y) g q y yg)
-      go (some z) q = found (pair_in g h) refl
+      go None q = true_not_false (and_intro (mem_stands h (opposite y) yh) (rw (ne_eqb (var x) (var y) d))) (find_none (λ y. stands (opposite y) h && differ x y) g q y yg)
+      go (Some z) q = found (pair_in g h) refl
         where
           found : (m : Option Literal) → pairs ≡ m → ⊥
-          found none p =
+          found None p =
               true_not_false (and_intro (mem_stands h (opposite x) xh) (rw q))
               (find_none (λ x. stands (opposite x) h && not (is_none (partner g h x))) g p x xg)
-          found (some z) p = none_found z p
+          found (Some z) p = none_found z p

@@ -1,7 +1,7 @@
 -- Demands 2 and 3 of the user, as theorems about the search of an accepted table.
 use mathlib.Core.Path.{◌≡◌, refl, ap, sym, ◌∙◌}
 use mathlib.Core.Logic.{◌↔◌}
-use mathlib.Core.Option.{Option, none, some}
+use Rattle.std.specs.Prelude.{Option, None, Some}
 use mathlib.Core.List.{List, [], ◌∷◌}
 use Prim.Native.Nat.{ℕ, suc, ◌<◌, ◌≤◌, min}
 use native.Mathlib.Omega.{arith}
@@ -36,8 +36,8 @@ module _ {n : ℕ} {f : Formula} (within : Within n f) where
       agrees c h = record { solves = h; agrees = record { at = λ p. refl } }
 
       go : (o : Option Choice) → IsFirst (Extends n f initial) o → IsFirst (Solution n f) o
-      go none h = λ c k. h c (agrees c k)
-      go (some c) h = record { member = h.member.solves; least = λ d k. h.least d (agrees d k) }
+      go None h = λ c k. h c (agrees c k)
+      go (Some c) h = record { member = h.member.solves; least = λ d k. h.least d (agrees d k) }
 
 -- demands 2 and 3, of the search of an accepted table with an allowance of b ----------------------------------------
 

@@ -2,7 +2,7 @@
 use mathlib.Core.Path.{◌≡◌, refl, ap, sym, ◌∙◌}
 use mathlib.Core.Bool.{Bool, true, false, not, cond, not-not}
 use mathlib.Core.Logic.{inl, inr, ⊎_elim}
-use mathlib.Core.Option.{Option, none, some}
+use Rattle.std.specs.Prelude.{Option, None, Some}
 use mathlib.Core.List.Memᴰ
 use mathlib.Core.List.{[], ◌∷◌, Memᴰ}
 use Prim.Native.Nat.{ℕ, ◌≤◌}
@@ -57,7 +57,7 @@ abbrev by : {f : Formula} {u : State} {p : ℕ} (h : InLive f u p) (k : Literal)
 by h k m = in_live h.clause h.member h.lives k m
 
 -- a state that no rule fits
-module _ {n : ℕ} {f : Formula} (within : Within n f) (u : State) (w : WellFormed n u) (rests : step f u ≡ none) where
+module _ {n : ℕ} {f : Formula} (within : Within n f) (u : State) (w : WellFormed n u) (rests : step f u ≡ None) where
   -- rules 7 and 8 fit no two live clauses
   before_unmet : {g h : Clause} → Before g h f → Alive (standing u g) → Alive (standing u h) → (a b : Literal) → ¬ Meets Live (standing u g) (standing u h) a b
   before_unmet {g} {h} o i j a b m = ⊎_elim
@@ -142,9 +142,9 @@ module _ {n : ℕ} {f : Formula} (within : Within n f) (u : State) (w : WellForm
         by_literal (Neg q) e s = let r = s (not b) in (r.0, r.1, ap (assignment r.0) (sym e) ∙ sym (not-not _) ∙ ap not r.2 ∙ not-not b)
 
         go : (m : Option ℕ) → IsLeast ◌≤◌ (InLive f u) m → (c : Choice) × Extends n f u c × (assignment c p ≡ b)
-        go none h = (
+        go None h = (
           choice_from n u v,
           choice_extends w within (rests_closed f u rests) v refl (λ c m k. absurd (none_alive h c m k)),
           choice_root w v refl p o.root o.inside ∙ rw (ne_eqb p 0 (omega (arith, o.positive))),
         )
-        go (some q) h = let l = live_all within u w q h.member few o in by_literal l.0 l.2 (literal_both (by h.member l.0 l.1))
+        go (Some q) h = let l = live_all within u w q h.member few o in by_literal l.0 l.2 (literal_both (by h.member l.0 l.1))

@@ -1,7 +1,8 @@
 -- The starred filings have the results that document 01 gives: one list, one fact.
 use mathlib.Core.Path.{◌≡◌, refl}
 use mathlib.Core.List.{map}
-use mathlib.Core.Option.{bind, or_else}
+use Rattle.std.specs.Prelude.{option_and_then}
+use Rattle.std.specs.Option.{option_or}
 use Rattle.general.specs.Lists.{from}
 use Rattle.general.specs.Search.{find, first_place, any}
 use Rattle.theory.specs.Formula.{clauses}
@@ -15,5 +16,5 @@ use Rattle.theory.specs.Calls.{search_call}
 use Rattle.theory.specs.Filings.{try, expected, starred}
 
 pub starred_hold : map try starred ≡ map expected starred
-unfolding starred try expected search_call check zeros nonzeros ends_open first_place search tree_of decide tree limited propagate ask first_clause first_pair standing occurs find any bind or_else clauses live_variables lowest branch_variable choice_of from
+unfolding starred try expected search_call check zeros nonzeros ends_open first_place search tree_of decide tree limited propagate ask first_clause first_pair standing occurs find any clauses live_variables lowest branch_variable choice_of from
 starred_hold = refl

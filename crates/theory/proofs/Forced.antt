@@ -2,7 +2,7 @@
 -- Solutions are such states too, so this one fact says that propagation keeps solutions and that its end does not depend on the order of steps.
 use mathlib.Core.Path.{◌≡◌, refl, ap, sym, ◌∙◌}
 use mathlib.Core.Logic.{◌≢◌, ⊎_elim}
-use mathlib.Core.Option.{none}
+use Rattle.std.specs.Prelude.{None}
 use mathlib.Core.List.{[], ◌∷◌, Memᴰ}
 use Prim.Native.Nat.{ℕ, suc}
 use native.Mathlib.Omega.{arith}
@@ -94,7 +94,7 @@ module _ {u : State} (base : Based u) where
   forced_one c k (only_two y z e oy oz t) = t.alike u (pair y z (rw e at k))
 
   module _ (g h : Clause) (kg : Closed (standing u g)) (kh : Closed (standing u h)) where
-    forced_common : (x y : Literal) → rule7 (standing u g) (standing u h) ≡ none → Memᴰ x g → Memᴰ x h → Memᴰ y g → Memᴰ (opposite y) h →
+    forced_common : (x y : Literal) → rule7 (standing u g) (standing u h) ≡ None → Memᴰ x g → Memᴰ x h → Memᴰ y g → Memᴰ (opposite y) h →
         var x ≢ var y → value u x ≡ FALSE
     forced_common x y r xg xh yg yh d = ⊎_elim (λ q. q)
         (λ (v : value u x ≢ FALSE). ⊎_elim
@@ -125,7 +125,7 @@ module _ {u : State} (base : Based u) where
         not_opposite : x ≢ opposite y
         not_opposite q = d (ap var q ∙ var_opposite y)
 
-    forced_crossed : (y z : Literal) → rule8 (standing u g) (standing u h) ≡ none → Memᴰ y g → Memᴰ (opposite y) h → Memᴰ z g → Memᴰ (opposite z) h →
+    forced_crossed : (y z : Literal) → rule8 (standing u g) (standing u h) ≡ None → Memᴰ y g → Memᴰ (opposite y) h → Memᴰ z g → Memᴰ (opposite z) h →
         var y ≢ var z → value u z ≡ opposite (value u y)
     forced_crossed y z r yg yh zg zh d = ⊎_elim
         (λ (e : value u y ≡ FALSE). unflipped z (beside_true h kh (opposite z) (opposite y) zh yh apart_opposites (flipped y e)) ∙ sym (ap opposite e))
@@ -156,7 +156,7 @@ module _ {u : State} (base : Based u) where
         apart_opposites : opposite z ≢ opposite y
         apart_opposites p = d (sym (var_opposite y) ∙ sym (ap var p) ∙ var_opposite z)
 
-    forced_two : rule7 (standing u g) (standing u h) ≡ none → rule8 (standing u g) (standing u h) ≡ none → {x t : Literal} → AsksTwo g h x t → value u x ≡ value u t
+    forced_two : rule7 (standing u g) (standing u h) ≡ None → rule8 (standing u g) (standing u h) ≡ None → {x t : Literal} → AsksTwo g h x t → value u x ≡ value u t
     forced_two r7 r8 (common {x = x} y xg xh yg yh o d) = of_false x (forced_common x y r7 xg xh yg yh d)
     forced_two r7 r8 (crossed y z yg yh zg zh oy oz t) = t.alike u (forced_crossed y z r8 yg yh zg zh t.apart)
 

@@ -1,7 +1,7 @@
 -- A5: settling that keeps reasons is settling, and the search is the search, once the reasons are forgotten.
 use mathlib.Core.Path.{◌≡◌, refl, ap}
 use mathlib.Core.List.{List}
-use mathlib.Core.Option.{Option, none, some}
+use Rattle.std.specs.Prelude.{Option, None, Some}
 use Prim.Native.Nat.{ℕ, zero, suc}
 use lib.IntN.{ℤ}
 use Rattle.theory.specs.declared.Asked.{Asked}
@@ -28,8 +28,8 @@ propagate_forgets f (suc k) e = go (step f e.state) (propagate_forgets f k)
 
     go : (o : Option Asked) → ((u : Explained) → forget (propagate_by k f u) ≡ propagate k f u.state) →
         forget (follow_by (propagate_by k f) e o) ≡ follow (propagate k f) e.state o
-    go none ih = refl
-    go (some a) ih = acts a.clause.0 a.step ih
+    go None ih = refl
+    go (Some a) ih = acts a.clause.0 a.step ih
 
 -- "forgetting the reasons gives back settling": states and dead ends
 pub settle_forgets : (n : ℕ) (f : Formula) (e : Explained) → forget (explain n f e) ≡ settle n f e.state
@@ -43,8 +43,8 @@ unfolding decide_by decide
 decide_forgets n f e = rw (← settle_forgets n f e) (ends (explain n f e))
   where
     splits : (u : Explained) (o : Option ℕ) → branch_variable f u.state ≡ o → seen state_of (ended_by n f (rest u)) ≡ decided (branch_variable f) n (settled.rest u.state)
-    splits u none q = rw q
-    splits u (some p) q = rw q
+    splits u None q = rw q
+    splits u (Some p) q = rw q
 
     ends : (o : Explanation) → seen state_of (ended_by n f o) ≡ decided (branch_variable f) n (forget o)
     ends dead = refl

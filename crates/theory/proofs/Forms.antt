@@ -2,7 +2,7 @@
 use mathlib.Core.Path.{◌≡◌, refl, ap, sym, ◌∙◌}
 use mathlib.Core.Bool.{Bool, true, false, not, ◌&&◌}
 use mathlib.Core.Logic.{◌⊎◌, inl, inr, ◌≢◌, ⊎_elim}
-use mathlib.Core.Option.{Option, none, some, bind}
+use Rattle.std.specs.Prelude.{Option, None, Some, option_and_then}
 use mathlib.Core.List.Memᴰ
 use mathlib.Core.List.{[], ◌∷◌, Memᴰ}
 use Prim.Native.Nat.{ℕ, ◌≤◌}
@@ -92,40 +92,39 @@ module _ {d : Clause} (k : Closed d) where
 -- rules 1 to 6 ---------------------------------------------------------------------------------------------------
 
 module _ {c : Clause} (k : Closed c) where
-  shut : (b : Bool) (o : Option Step) → (b ≡ true → o ≡ none) → when b o ≡ none
+  shut : (b : Bool) (o : Option Step) → (b ≡ true → o ≡ None) → when b o ≡ None
   shut true o h = h refl
   shut false o h = refl
 
-  quiet_2 : rule2 c ≡ none
+  quiet_2 : rule2 c ≡ None
   quiet_2 = shut (eqb (occurs TRUE c) 1) _ (λ e. ap becomes_false (find_nothing is_open c (λ x m.
       ap is_open (closed_met k (occurs_mem c TRUE (let h = eqb-true (occurs TRUE c) 1 e in omega arith)) x m))))
 
-  quiet_3 : rule3 c ≡ none
+  quiet_3 : rule3 c ≡ None
   quiet_3 = go c refl
     where
-      go : (d : Clause) → c ≡ d → rule3 d ≡ none
+      go : (d : Clause) → c ≡ d → rule3 d ≡ None
       go [] e = refl
       go (x ∷ []) e = rw (short_one k x e)
       go (x ∷ y ∷ d) e = refl
 
-  quiet_4 : rule4 c ≡ none
+  quiet_4 : rule4 c ≡ None
   quiet_4 = shut (none_true c) _ (λ e. ap becomes_false (find_nothing (λ x. leb 2 (occurs x c)) c (λ x m. lt-leb 2 (occurs x c) (let h = closed_once k x in omega arith))))
 
-  quiet_5 : rule5 c ≡ none
-  unfolding bind
+  quiet_5 : rule5 c ≡ None
   quiet_5 = shut (none_true c) _ (λ e. ap becomes_false (nothing (complementary c) (find_finds (λ x. stands (opposite x) c) c)))
     where
-      nothing : (o : Option Literal) → Finds (λ x. stands (opposite x) c) c o → bind o (other c) ≡ none
-      nothing none h = refl
-      nothing (some x) h = find_nothing (λ y. differ x y) c (λ y m. ap not (eq-eqb (var x) (var y) (⊎_elim
+      nothing : (o : Option Literal) → Finds (λ x. stands (opposite x) c) c o → option_and_then (other c) o ≡ None
+      nothing None h = refl
+      nothing (Some x) h = find_nothing (λ y. differ x y) c (λ y m. ap not (eq-eqb (var x) (var y) (⊎_elim
           (λ q. sym (ap var q))
           (λ q. sym (ap var q ∙ var_opposite x))
           (closed_opposites k x y h.0 (stands_mem c (opposite x) h.1) m))))
 
-  quiet_6 : rule6 c ≡ none
+  quiet_6 : rule6 c ≡ None
   quiet_6 = go c refl
     where
-      go : (d : Clause) → c ≡ d → rule6 d ≡ none
+      go : (d : Clause) → c ≡ d → rule6 d ≡ None
       go [] e = refl
       go (x ∷ []) e = refl
       go (x ∷ y ∷ []) e = shut (is_open x && is_open y && differ x y) _ (λ b.

@@ -1,7 +1,7 @@
 -- Below a branch on p no open variable up to p stands in a live clause again, so the next branch variable may be looked for from p + 1 on.
 use mathlib.Core.Path.{◌≡◌, refl, ap, sym, ◌∙◌}
 use mathlib.Core.Logic.{◌⊎◌, inl, inr, ⊎_elim}
-use mathlib.Core.Option.{Option, none, some}
+use Rattle.std.specs.Prelude.{Option, None, Some}
 use mathlib.Core.List.Memᴰ
 use mathlib.Core.List.{[], ◌∷◌, Memᴰ}
 use Prim.Native.Nat.{ℕ, suc, ◌<◌, ◌≤◌}
@@ -44,7 +44,7 @@ pub guard_start : (f : Formula) (s : State) → Guard f s 1
 guard_start f s = record { at = λ c m. inl (λ x i o. o) }
 
 -- at a branch on p
-pub guard_branch : {p : ℕ} {f : Formula} {s : State} → ((c : Clause) → Memᴰ c f → Closed (standing s c)) → branch_variable f s ≡ some p → Guard f s p
+pub guard_branch : {p : ℕ} {f : Formula} {s : State} → ((c : Clause) → Memᴰ c f → Closed (standing s c)) → branch_variable f s ≡ Some p → Guard f s p
 guard_branch {p} {f} {s} closed e = record { at = λ c m. forms (closed c m) (λ a x i o. least (var x) (in_live c m a x i)) }
   where
     least : (q : ℕ) → InLive f s q → p ≤ q
@@ -87,7 +87,7 @@ guard_side {p} {f} {s} t o z g = record { at = λ c m. ⊎_elim (λ a. inl (λ x
     ]
 
 -- so on either side of a settled state's split
-pub guard_split : {p : ℕ} {f : Formula} (s : State) → ((c : Clause) → Memᴰ c f → Closed (standing s c)) → branch_variable f s ≡ some p → (t : Literal) → var t ≡ 0 →
+pub guard_split : {p : ℕ} {f : Formula} (s : State) → ((c : Clause) → Memᴰ c f → Closed (standing s c)) → branch_variable f s ≡ Some p → (t : Literal) → var t ≡ 0 →
     Guard f (assign (Pos p) t s) (suc p)
 guard_split {p} {f} s closed e t z = guard_side t positive z (guard_branch closed e)
   where
@@ -164,19 +164,19 @@ module _ {p : ℕ} {f : Formula} {s : State} (g : Guard f s p) (closed : (c : Cl
       rw k.stands_for at (in_live k.clause k.member a (value s k.written)
       (mem_standing s k.clause k.written k.written_in (λ e. omega (arith, ap var e, k.stands_for))))
 
-  pub branch_from : (q : ℕ) → 0 < q → InWide f s q → ((r : ℕ) → p ≤ r → r < q → ¬ InWide f s r) → branch_variable f s ≡ some q
+  pub branch_from : (q : ℕ) → 0 < q → InWide f s q → ((r : ℕ) → p ≤ r → r < q → ¬ InWide f s r) → branch_variable f s ≡ Some q
   branch_from q o k h = go (branch_variable f s) (branch_least f s closed)
     where
-      go : (b : Option ℕ) → IsLeast ◌≤◌ (InLive f s) b → b ≡ some q
-      go none l = absurd (l q (wide_in_live o k))
-      go (some r) l = elim (dec_lt r q) [
+      go : (b : Option ℕ) → IsLeast ◌≤◌ (InLive f s) b → b ≡ Some q
+      go None l = absurd (l q (wide_in_live o k))
+      go (Some r) l = elim (dec_lt r q) [
         | yes i ↦ absurd (h r (guard_live g l.member) i (live_in_wide l.member))
-        | no i ↦ ap some (let j = l.least q (wide_in_live o k) in omega arith)
+        | no i ↦ ap Some (let j = l.least q (wide_in_live o k) in omega arith)
       ]
 
-  pub branch_none : {n : ℕ} → Within n f → WellFormed n s → ((r : ℕ) → p ≤ r → r ≤ n → ¬ InWide f s r) → branch_variable f s ≡ none
+  pub branch_none : {n : ℕ} → Within n f → WellFormed n s → ((r : ℕ) → p ≤ r → r ≤ n → ¬ InWide f s r) → branch_variable f s ≡ None
   branch_none within w h = go (branch_variable f s) (branch_least f s closed)
     where
-      go : (o : Option ℕ) → IsLeast ◌≤◌ (InLive f s) o → o ≡ none
-      go none l = refl
-      go (some r) l = absurd (h r (guard_live g l.member) (live_open w within l.member).inside (live_in_wide l.member))
+      go : (o : Option ℕ) → IsLeast ◌≤◌ (InLive f s) o → o ≡ None
+      go None l = refl
+      go (Some r) l = absurd (h r (guard_live g l.member) (live_open w within l.member).inside (live_in_wide l.member))

@@ -2,7 +2,7 @@
 use mathlib.Core.Path.{◌≡◌, refl, ap, sym, ◌∙◌}
 use mathlib.Core.Bool.{Bool, true, false, not, ◌&&◌}
 use mathlib.Core.Logic.{◌⊎◌, inl, inr, ◌≢◌, ⊎_elim}
-use mathlib.Core.Option.{Option, none, some}
+use Rattle.std.specs.Prelude.{Option, None, Some}
 use mathlib.Core.List.{Memᴰ}
 use Prim.Native.Nat.{◌<◌}
 use native.Mathlib.Omega.{arith}
@@ -42,12 +42,12 @@ module _ (d : Clause) where
       silent false = refl
 
       alone : (y : Literal) → Memᴰ y d → (o : Option Literal) → Finds (λ z. differ y z) d o → is_none o ≡ true
-      alone y m none h = refl
-      alone y m (some z) h = absurd (eqb-false (var y) (var z) (not-true (eqb (var y) (var z)) h.1) (k.only y m ∙ sym (k.only z h.0)))
+      alone y m None h = refl
+      alone y m (Some z) h = absurd (eqb-false (var y) (var z) (not-true (eqb (var y) (var z)) h.1) (k.only y m ∙ sym (k.only z h.0)))
 
       rests : (o : Option Literal) → Finds (λ y. stands (opposite y) d) d o → rests_on d o ≡ true
-      rests none h = absurd (true_not_false (mem_stands d (opposite k.literal) k.across) (h k.literal k.here))
-      rests (some y) h = alone y h.0 (other d y) (find_finds (λ z. differ y z) d)
+      rests None h = absurd (true_not_false (mem_stands d (opposite k.literal) k.across) (h k.literal k.here))
+      rests (Some y) h = alone y h.0 (other d y) (find_finds (λ z. differ y z) d)
 
   pub not_live_idle : live d ≡ false → Idle d
   not_live_idle e = elim (ℕ_discrete (occurs TRUE d) 0) [
@@ -56,12 +56,12 @@ module _ (d : Clause) where
   ]
     where
       alone : (y : Literal) → Memᴰ y d → Memᴰ (opposite y) d → (o : Option Literal) → Finds (λ z. differ y z) d o → not (is_none o) ≡ false → Lone d
-      alone y m k none h q = record { literal = y; here = m; across = k; only = λ z n. sym (eqb-true (var y) (var z) (not-false _ (h z n))) }
-      alone y m k (some z) h q = absurd (true_not_false refl q)
+      alone y m k None h q = record { literal = y; here = m; across = k; only = λ z n. sym (eqb-true (var y) (var z) (not-false _ (h z n))) }
+      alone y m k (Some z) h q = absurd (true_not_false refl q)
 
       found : (o : Option Literal) → Finds (λ y. stands (opposite y) d) d o → not (rests_on d o) ≡ false → Lone d
-      found none h q = absurd (true_not_false refl q)
-      found (some y) h q = alone y h.0 (stands_mem d (opposite y) h.1) (other d y) (find_finds (λ z. differ y z) d) q
+      found None h q = absurd (true_not_false refl q)
+      found (Some y) h q = alone y h.0 (stands_mem d (opposite y) h.1) (other d y) (find_finds (λ z. differ y z) d) q
 
   -- in a live clause none is true
   pub live_none_true : live d ≡ true → occurs TRUE d ≡ 0

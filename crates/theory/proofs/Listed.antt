@@ -16,7 +16,7 @@ use Rattle.theory.specs.Formula.{Choice, clauses}
 use Rattle.theory.specs.Layouts.{layouts}
 use Rattle.theory.specs.Listing.{list_tree, list, rows_of}
 use Rattle.theory.specs.Table.{Accepted}
-use Rattle.theory.specs.Tree.{choices_found, Result, finish}
+use Rattle.theory.specs.Tree.{choices_found, Limited, finish}
 use Rattle.theory.proofs.Budget.{limited_finished}
 use Rattle.theory.proofs.Listing.{list_layouts}
 use Rattle.theory.proofs.Tree.{choices_length}
@@ -25,7 +25,7 @@ module _ (n : ℕ) (t : List ℤ) (accepted : Accepted n t) (k b : ℕ) (ends : 
   abbrev all : List Choice
   all = layouts n (clauses t)
 
-  abbrev r : Result Choice
+  abbrev r : Limited Choice
   r = list n t k b
 
   pub listed_finished : r ≡ finish (list_tree n t k)
@@ -34,7 +34,7 @@ module _ (n : ℕ) (t : List ℤ) (accepted : Accepted n t) (k b : ℕ) (ends : 
 
   -- one layout past the rows is looked for
   found_is : choices_found r.found ≡ take (suc k) all
-  found_is = ap (λ (x : Result Choice). choices_found x.found) listed_finished ∙ list_layouts n t accepted k
+  found_is = ap (λ (x : Limited Choice). choices_found x.found) listed_finished ∙ list_layouts n t accepted k
 
   pub listed_length : length r.found ≡ min (suc k) (length all)
   listed_length = sym (choices_length r.found) ∙ ap length found_is ∙ length-take (suc k) all

@@ -2,7 +2,7 @@
 use mathlib.Core.Path.{◌≡◌, refl, ap, ◌∙◌}
 use mathlib.Core.Bool.{false}
 use mathlib.Core.List.{List}
-use mathlib.Core.Option.{Option, none, some}
+use Rattle.std.specs.Prelude.{Option, None, Some}
 use Prim.Native.Nat.{ℕ, suc, ◌≤◌}
 use native.Mathlib.Decide.{dec_lt}
 use native.Mathlib.Omega.{arith}
@@ -45,14 +45,14 @@ open_least n s = go (find (λ p. same (s p) (Pos p)) (up_to (λ p. p) n)) (find_
     shut p e o = same_false (s p) (Pos p) e o.root
 
     go : (o : Option ℕ) → FindsFrom (λ p. same (s p) (Pos p)) 1 n o → IsLeast ◌≤◌ (Open n s) o
-    go none h = λ p o. shut p (h p o.positive (omega (arith, o.inside))) o
-    go (some p) h = record {
+    go None h = λ p o. shut p (h p o.positive (omega (arith, o.inside))) o
+    go (Some p) h = record {
       member = record { positive = h.0; inside = omega (arith, h.1); root = same_true (s p) (Pos p) h.2 };
       least = λ q o. elim (dec_lt q p) [ yes l ↦ absurd (shut q (h.3 q o.positive l) o) | no l ↦ omega arith ];
     }
 
 -- a state that no rule fits
-module _ {n : ℕ} {f : Formula} (within : Within n f) (s : State) (w : WellFormed n s) (rests : step f s ≡ none) where
+module _ {n : ℕ} {f : Formula} (within : Within n f) (s : State) (w : WellFormed n s) (rests : step f s ≡ None) where
   -- the lowest open variable is p: where two solutions first differ they differ at an open variable
   module _ (p : ℕ) (b : Least ◌≤◌ (Open n s) p) where
     sides_apart : (c d : Choice) → LeftOut n f s p c → Taken n f s p d → c ≺ d
@@ -82,15 +82,15 @@ module _ {n : ℕ} {f : Formula} (within : Within n f) (s : State) (w : WellForm
   open_right = go (open_variable n s) (open_least n s)
     where
       go : (o : Option ℕ) → IsLeast ◌≤◌ (Open n s) o → Right n f s (split_on n s o)
-      go none h = leaf_least h
-      go (some p) h = sides_branches h.member f w (λ c d x y. (sides_apart p h c d x.member y).0)
+      go None h = leaf_least h
+      go (Some p) h = sides_branches h.member f w (λ c d x y. (sides_apart p h c d x.member y).0)
 
   open_strict : Strict (WellFormed n) (λ u. opens u n) (Extends n f) ◌≼◌ ◌≺◌ s (split_on n s (open_variable n s))
   open_strict = go (open_variable n s) (open_least n s)
     where
       go : (o : Option ℕ) → IsLeast ◌≤◌ (Open n s) o → Strict (WellFormed n) (λ u. opens u n) (Extends n f) ◌≼◌ ◌≺◌ s (split_on n s o)
-      go none h = leaf_only h
-      go (some p) h = sides_apart p h
+      go None h = leaf_only h
+      go (Some p) h = sides_apart p h
 
 module _ {n : ℕ} {f : Formula} (within : Within n f) where
   pub open_picking : Picking n f (open_variable n) (decide_open n f)
@@ -107,8 +107,8 @@ module _ {n : ℕ} {f : Formula} (within : Within n f) where
         where
           back : (o : Option ℕ) → Strict (WellFormed n) (λ u. opens u n) (Extends n f) ◌≼◌ ◌≺◌ u (split_on n u o) →
               Strict (WellFormed n) (λ u. opens u n) (Extends n f) ◌≼◌ ◌≺◌ s (split_on n u o)
-          back none h = λ c x. h c ((k c).0 x)
-          back (some p) h = h
+          back None h = λ c x. h c ((k c).0 x)
+          back (Some p) h = h
 
   -- "The rows are all layouts in document 01's order, each once, up to k"
   pub tree_lists : (k : ℕ) → Firsts ◌≺◌ (Solution n f) (suc k) (choices_found (open_tree n f (suc k) initial).found)

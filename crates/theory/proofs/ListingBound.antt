@@ -3,7 +3,7 @@ use mathlib.Core.Path.{◌≡◌, refl}
 use mathlib.Core.Bool.{true, false}
 use mathlib.Core.Logic.{◌⊎◌, inl, inr, ⊎_elim}
 use mathlib.Core.List.{List, [], ◌∷◌}
-use mathlib.Core.Option.{Option, none, some}
+use Rattle.std.specs.Prelude.{Option, None, Some}
 use Prim.Native.Nat.{ℕ, zero, suc, ◌+◌, ◌-◌, ◌*◌, ◌^◌, ◌≤◌, ◌<◌}
 use native.Mathlib.Decide.{dec_le}
 use native.Mathlib.Nat.{two-pow-succ, one-le-pow, pow-le-pow_right}
@@ -145,7 +145,7 @@ module _ {n : ℕ} {f : Formula} (within : Within n f) where
   Fits s m = WellFormed n s × Sized m (settle n f s)
 
   -- a side of a split is a dead end only where four variables are open
-  module _ (u : State) (w : WellFormed n u) (rests : step f u ≡ none) (p : ℕ) (o : Open n u p) (m : ℕ) (size : opens u n ≤ suc m) where
+  module _ (u : State) (w : WellFormed n u) (rests : step f u ≡ None) (p : ℕ) (o : Open n u p) (m : ℕ) (size : opens u n ≤ suc m) where
     side_fits : (x : Literal) → var x ≡ 0 → (opens u n ≤ 3 → (c : Choice) × Extends n f (assign (Pos p) x u) c) → Fits (assign (Pos p) x u) m
     side_fits x z solved = (one.well, go (settle n f (assign (Pos p) x u)) (settle_ends within _ one.well) (settles_alike within _ one.well))
       where
@@ -166,10 +166,10 @@ module _ {n : ℕ} {f : Formula} (within : Within n f) where
   unfolding decide_open
   halves s m h = go (settle n f s) (settle_ends within s h.0) h.1
     where
-      split_at : (m : ℕ) (u : State) → WellFormed n u → step f u ≡ none → opens u n ≤ m → (o : Option ℕ) → IsLeast ◌≤◌ (Open n u) o → Halves Fits m (split_on n u o)
-      split_at m u w e l none k = tt
-      split_at zero u w e l (some p) k = absurd (omega (arith, (side w k.member TRUE refl).closes))
-      split_at (suc m) u w e l (some p) k = sides_fit u w e p k.member m l
+      split_at : (m : ℕ) (u : State) → WellFormed n u → step f u ≡ None → opens u n ≤ m → (o : Option ℕ) → IsLeast ◌≤◌ (Open n u) o → Halves Fits m (split_on n u o)
+      split_at m u w e l None k = tt
+      split_at zero u w e l (Some p) k = absurd (omega (arith, (side w k.member TRUE refl).closes))
+      split_at (suc m) u w e l (Some p) k = sides_fit u w e p k.member m l
 
       go : (d : Settled) → Ends n f s d → Sized m d → Halves Fits m (decided (open_variable n) n d)
       go dead e l = l

@@ -2,7 +2,7 @@
 use mathlib.Core.Path.{◌≡◌, refl, ap, ◌∙◌}
 use mathlib.Core.Bool.{Bool, true, false, cond}
 use mathlib.Core.Logic.{◌⊎◌, inl, inr, ⊎_elim}
-use mathlib.Core.Option.{Option, none, some}
+use Rattle.std.specs.Prelude.{Option, None, Some}
 use mathlib.Core.List.Memᴰ
 use mathlib.Core.List.{List, [], ◌∷◌, map, Memᴰ}
 use Prim.Native.Nat.{ℕ, ◌≤◌, min}
@@ -49,11 +49,11 @@ lowest_least [] = λ p m. Memᴰ.not-nil m
 lowest_least (p ∷ l) = go (lowest l) (lowest_least l)
   where
     go : (o : Option ℕ) → IsLeast ◌≤◌ (λ q. Memᴰ q l) o → IsLeast ◌≤◌ (λ q. Memᴰ q (p ∷ l)) (lower p o)
-    go none h = record {
+    go None h = record {
       member = Memᴰ.head refl;
       least = λ q m. ⊎_elim (λ e. omega arith) (λ k. absurd (h q k)) (Memᴰ.cases_cons m);
     }
-    go (some r) h = record {
+    go (Some r) h = record {
       member = elim (dec_le p r) [
         | yes k ↦ let e : min p r ≡ p = omega arith in Memᴰ.head e
         | no k ↦ let e : min p r ≡ r = omega arith in Memᴰ.tail (Memᴰ.cast e h.member)
@@ -141,5 +141,5 @@ branch_least f s closed = go (lowest (live_variables (map (standing s) f))) (low
     stood p k = Memᴰ.cast k.variable (live_variable f s k.clause k.member k.lives k.literal k.standing_in)
 
     go : (o : Option ℕ) → IsLeast ◌≤◌ (λ p. Memᴰ p (live_variables (map (standing s) f))) o → IsLeast ◌≤◌ (InLive f s) o
-    go none h = λ p k. h p (stood p k)
-    go (some p) h = record { member = variable_live f s closed p h.member; least = λ q k. h.least q (stood q k) }
+    go None h = λ p k. h p (stood p k)
+    go (Some p) h = record { member = variable_live f s closed p h.member; least = λ q k. h.least q (stood q k) }

@@ -2,7 +2,7 @@
 use mathlib.Core.Path.{◌≡◌, refl, sym, ◌∙◌}
 use mathlib.Core.Bool.{true, ◌&&◌}
 use mathlib.Core.Logic.{◌⊎◌, inl, inr, ◌≢◌, ⊎_elim}
-use mathlib.Core.Option.{Option, none, some}
+use Rattle.std.specs.Prelude.{Option, None, Some}
 use mathlib.Core.List.{Memᴰ}
 use Prim.Native.Nat.{◌<◌}
 use Rattle.general.specs.Booleans.{and_true}
@@ -102,7 +102,7 @@ abbrev pub Live : Clause → Type 0
 Live c = live c ≡ true
 
 abbrev pub NoPair : Clause → Clause → Type 0
-NoPair g h = (rule7 g h ≡ none) × (rule8 g h ≡ none)
+NoPair g h = (rule7 g h ≡ None) × (rule8 g h ≡ None)
 
 module _ (g h : Clause) (f : NoFalse g) where
   two_meets : (st : Step) → Live g × Live h → Two g h st → (a : Literal) × (b : Literal) × Meets Live g h a b
@@ -114,6 +114,6 @@ module _ (g h : Clause) (f : NoFalse g) where
   pub meets_no_pair : ((a b : Literal) → ¬ Meets Live g h a b) → NoPair g h
   meets_no_pair unmet = (go (rule7 g h) refl (λ st e. ((cond_some _ _ st e).0, rule7_two g h f st e)), go (rule8 g h) refl (λ st e. ((cond_some _ _ st e).0, rule8_two g h f st e)))
     where
-      go : (o : Option Step) {r : Option Step} → r ≡ o → ((st : Step) → r ≡ some st → ((live g && live h) ≡ true) × Two g h st) → r ≡ none
-      go none e k = e
-      go (some st) e k = let w = k st e in let m = two_meets st (and_true (live g) (live h) w.0) w.1 in absurd (unmet m.0 m.1 m.2)
+      go : (o : Option Step) {r : Option Step} → r ≡ o → ((st : Step) → r ≡ Some st → ((live g && live h) ≡ true) × Two g h st) → r ≡ None
+      go None e k = e
+      go (Some st) e k = let w = k st e in let m = two_meets st (and_true (live g) (live h) w.0) w.1 in absurd (unmet m.0 m.1 m.2)

@@ -3,7 +3,7 @@
 use mathlib.Core.Path.{◌≡◌, refl, ap, sym, ◌∙◌}
 use mathlib.Core.Logic.{◌↔◌}
 use mathlib.Core.List.{[]}
-use mathlib.Core.Option.{Option, none}
+use Rattle.std.specs.Prelude.{Option, None}
 use Prim.Native.Nat.{ℕ, suc}
 use native.Mathlib.Omega.{arith}
 use Rattle.theory.specs.Order.{◌≼◌}
@@ -27,7 +27,7 @@ Right n f s d = Means (WellFormed n) (λ u. opens u n) (Extends n f) ◌≼◌ s
 -- a way to decide, by the variable that it picks where no rule fits
 pub record Picking (n : ℕ) (f : Formula) (pick : State → Option ℕ) (decide : State → Decision State Choice) : Type 0 where
   pub is : (s : State) → decide s ≡ decided pick n (settle n f s)
-  pub right : (u : State) → WellFormed n u → step f u ≡ none → Right n f u (split_on n u (pick u))
+  pub right : (u : State) → WellFormed n u → step f u ≡ None → Right n f u (split_on n u (pick u))
 
 extends_sol : (n : ℕ) (f : Formula) (s : State) (c : Choice) → Extends n f s c → Sol f s (assignment c)
 extends_sol n f s c h = record { constant = refl; satisfies = h.solves.satisfies; agrees = h.agrees }

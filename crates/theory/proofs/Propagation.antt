@@ -1,6 +1,6 @@
 -- Propagation ends, and its end does not depend on the order of steps.
 use mathlib.Core.Path.{◌≡◌, refl, ap}
-use mathlib.Core.Option.{Option, none, some}
+use Rattle.std.specs.Prelude.{Option, None, Some}
 use Prim.Native.Nat.{ℕ, zero, suc, ◌+◌, ◌<◌, ◌≤◌}
 use native.Mathlib.Omega.{arith}
 use native.Mathlib.Nat.{le_refl}
@@ -21,12 +21,12 @@ initial_well n = record { low = λ p. le_refl p; fixed = λ p. refl; beyond = λ
 -- no rule fits in v, rule 1 included
 pub record Stable (f : Formula) (v : State) : Type 0 where
   pub based : Based v
-  pub rests : step f v ≡ none
+  pub rests : step f v ≡ None
 
 -- propagation from s ends at u: every stable state that refines s refines u too
 pub record Ended (n : ℕ) (f : Formula) (s u : State) : Type 0 where
   pub well : WellFormed n u
-  pub rests : step f u ≡ none
+  pub rests : step f u ≡ None
   pub refines : Refines s u
   pub coarsest : (v : State) → Stable f v → Refines s v → Refines u v
   pub fewer : opens u n ≤ opens s n
@@ -74,18 +74,18 @@ module _ {n : ℕ} {f : Formula} (within : Within n f) where
       acts (Becomes x t) a ih = back x t a (propagate k f (assign x t s)) (ih (assign x t s) (asked_well w a) (omega (arith, asked_closes w a)))
 
       go : (o : Option Asked) → step f s ≡ o → ((u : State) → WellFormed n u → opens u n < k → Ends n f u (propagate k f u)) → Ends n f s (follow (propagate k f) s o)
-      go none e ih = record { well = w; rests = e; refines = refines_refl w; coarsest = λ v k q. q; fewer = le_refl _ }
-      go (some b) e ih = acts b.step (step_allowed f s b e) ih
+      go None e ih = record { well = w; rests = e; refines = refines_refl w; coarsest = λ v k q. q; fewer = le_refl _ }
+      go (Some b) e ih = acts b.step (step_allowed f s b e) ih
 
 -- one step more of settling
-pub propagate_more : (f : Formula) (m : ℕ) (s u : State) (a : Asked) {x t : Literal} → propagate m f s ≡ rest u → step f u ≡ some a → a.step ≡ Becomes x t →
+pub propagate_more : (f : Formula) (m : ℕ) (s u : State) (a : Asked) {x t : Literal} → propagate m f s ≡ rest u → step f u ≡ Some a → a.step ≡ Becomes x t →
     propagate (suc m) f s ≡ rest (assign x t u)
 unfolding propagate
 propagate_more f zero s u a q i j = let h : s ≡ u = cc in rw (h, i, j)
 propagate_more f (suc m) s u a {x} {t} q i j = go (step f s) refl (λ v. propagate_more f m v u a) q
   where
     End : State → Type 0
-    End v = propagate m f v ≡ rest u → step f u ≡ some a → a.step ≡ Becomes x t → propagate (suc m) f v ≡ rest (assign x t u)
+    End v = propagate m f v ≡ rest u → step f u ≡ Some a → a.step ≡ Becomes x t → propagate (suc m) f v ≡ rest (assign x t u)
 
     acts : (d : Step) → ((v : State) → End v) → act (propagate m f) s d ≡ rest u → act (propagate (suc m) f) s d ≡ rest (assign x t u)
     acts DeadEnd ih q = absurd (let z : ◌≡◌ {A = ℕ} 0 1 = cc in omega arith)
@@ -93,8 +93,8 @@ propagate_more f (suc m) s u a {x} {t} q i j = go (step f s) refl (λ v. propaga
 
     go : (o : Option Asked) → step f s ≡ o → ((v : State) → End v) → follow (propagate m f) s o ≡ rest u →
         follow (propagate (suc m) f) s o ≡ rest (assign x t u)
-    go none h ih q = absurd (let z : s ≡ u = cc in let y : ◌≡◌ {A = ℕ} 0 1 = cc in omega arith)
-    go (some b) h ih q = acts b.step ih q
+    go None h ih q = absurd (let z : s ≡ u = cc in let y : ◌≡◌ {A = ℕ} 0 1 = cc in omega arith)
+    go (Some b) h ih q = acts b.step ih q
 
 -- In any order ---------------------------------------------------------------------------------------------------
 
@@ -123,7 +123,7 @@ module _ {n : ℕ} {f : Formula} (within : Within n f) where
 
   module _ {s u : State} {m : ℕ} (r : Steps f s u m) (w : WellFormed n s) (k : ℕ) (enough : opens s n < k) where
     -- steps in any order that end where no rule fits end where propagation ends
-    pub any_order_rest : step f u ≡ none → propagate k f s ≡ rest u
+    pub any_order_rest : step f u ≡ None → propagate k f s ≡ rest u
     any_order_rest e = go (propagate k f s) (propagate_ends within k s w enough)
       where
         stable : Stable f u

@@ -4,7 +4,7 @@ use mathlib.Core.Bool.{true≢false}
 use mathlib.Core.Logic.{◌⊎◌, inl, inr, ◌≢◌, ◌↔◌, ⊎_elim}
 use mathlib.Core.List.Memᴰ
 use mathlib.Core.List.{List, [], ◌∷◌, Memᴰ}
-use mathlib.Core.Option.{Option, none, some}
+use Rattle.std.specs.Prelude.{Option, None, Some}
 use Prim.Native.Nat.{ℕ, zero, suc, ◌<◌}
 use native.Mathlib.Decide.{ℕ_discrete}
 use native.Mathlib.Omega.{arith}
@@ -109,28 +109,28 @@ module _ {n : ℕ} {l : List ℕ} {e : Explained} {x t : Literal} (a : Accounted
 
 -- what a state has, and each step of settling keeps, a state has where settling ends
 module _ (f : Formula) (P : Explained → Type 0)
-    (kept : (e : Explained) (a : Asked) (x t : Literal) → step f e.state ≡ some a → a.step ≡ Becomes x t → P e → P (assign_by a.clause.0 x t e)) where
+    (kept : (e : Explained) (a : Asked) (x t : Literal) → step f e.state ≡ Some a → a.step ≡ Becomes x t → P e → P (assign_by a.clause.0 x t e)) where
   propagate_keeps : (k : ℕ) (e u : Explained) → P e → propagate_by k f e ≡ rest u → P u
   unfolding propagate_by
   propagate_keeps zero e u h q = let i : e ≡ u = cc in rw i at h
   propagate_keeps (suc k) e u h q = go (step f e.state) refl (propagate_keeps k) q
     where
-      acts : (a : Asked) → step f e.state ≡ some a → (t : Step) → a.step ≡ t → ((v w : Explained) → P v → propagate_by k f v ≡ rest w → P w) →
+      acts : (a : Asked) → step f e.state ≡ Some a → (t : Step) → a.step ≡ t → ((v w : Explained) → P v → propagate_by k f v ≡ rest w → P w) →
           act_by (propagate_by k f) e a.clause.0 t ≡ rest u → P u
       acts a i DeadEnd j ih q = absurd (let z : ◌≡◌ {A = ℕ} 0 1 = cc in omega arith)
       acts a i (Becomes x t) j ih q = ih (assign_by a.clause.0 x t e) u (kept e a x t i j h) q
 
       go : (o : Option Asked) → step f e.state ≡ o → ((v w : Explained) → P v → propagate_by k f v ≡ rest w → P w) →
           follow_by (propagate_by k f) e o ≡ rest u → P u
-      go none i ih q = let j : e ≡ u = cc in rw j at h
-      go (some a) i ih q = acts a i a.step refl ih q
+      go None i ih q = let j : e ≡ u = cc in rw j at h
+      go (Some a) i ih q = acts a i a.step refl ih q
 
 module _ {n : ℕ} {f : Formula} (within : Within n f) where
-  asked_valid : (s : State) → WellFormed n s → (a : Asked) {x t : Literal} → step f s ≡ some a → a.step ≡ Becomes x t → Valid n s x t
+  asked_valid : (s : State) → WellFormed n s → (a : Asked) {x t : Literal} → step f s ≡ Some a → a.step ≡ Becomes x t → Valid n s x t
   asked_valid s w a asked e = valid_step within w (asked_allowed f s a asked e)
 
   module _ {l : List ℕ} where
-    accounted_asked : (e : Explained) (a : Asked) (x t : Literal) → step f e.state ≡ some a → a.step ≡ Becomes x t → Accounted n l e →
+    accounted_asked : (e : Explained) (a : Asked) (x t : Literal) → step f e.state ≡ Some a → a.step ≡ Becomes x t → Accounted n l e →
         Accounted n l (assign_by a.clause.0 x t e)
     accounted_asked e a x t asked i c = accounted_step c (asked_valid e.state c.well a asked i) a.clause.0 (step_holds f e.state a asked i).from_one
 
@@ -163,7 +163,7 @@ module _ {n : ℕ} {f : Formula} (within : Within n f) where
     reached : propagate steps f initial ≡ settled.rest e.state
     named : (p : ℕ) → e.reasons p ≢ 0 → SettledBy f p (e.reasons p)
 
-  explains_step : (e : Explained) (a : Asked) (x t : Literal) → step f e.state ≡ some a → a.step ≡ Becomes x t → Explains e →
+  explains_step : (e : Explained) (a : Asked) (x t : Literal) → step f e.state ≡ Some a → a.step ≡ Becomes x t → Explains e →
       Explains (assign_by a.clause.0 x t e)
   explains_step e a x t asked i h = record {
     accounted = accounted_asked within e a x t asked i h.accounted;
@@ -189,7 +189,7 @@ module _ {n : ℕ} {f : Formula} (within : Within n f) where
         is_open = fixed_pos e.state x v.fixed_x;
         literal = x;
         becomes = t;
-        asked = asked ∙ ap (λ (s : Step). some (asked_by k s)) i;
+        asked = asked ∙ ap (λ (s : Step). Some (asked_by k s)) i;
         its_variable = refl;
         asker = rw i at (step_asker f e.state a asked);
         holder = step_holds f e.state a asked i;
@@ -227,8 +227,8 @@ explain_fuel {n} {f} within (suc k) (suc j) e w h i = go (step f e.state) refl (
     acts c (Becomes x t) a ih = ih (assign_by c x t e) (asked_well within w a) (omega (arith, asked_closes within w a)) (omega (arith, asked_closes within w a))
 
     go : (o : Option Asked) → step f e.state ≡ o → Same → follow_by (propagate_by k f) e o ≡ follow_by (propagate_by j f) e o
-    go none q ih = refl
-    go (some b) q ih = acts b.clause.0 b.step (step_allowed f e.state b q) ih
+    go None q ih = refl
+    go (Some b) q ih = acts b.clause.0 b.step (step_allowed f e.state b q) ih
 
 -- of settling without reasons too
 pub propagate_fuel : {n : ℕ} {f : Formula} → Within n f → (k j : ℕ) (s : State) → WellFormed n s → opens s n < k → opens s n < j → propagate k f s ≡ propagate j f s
@@ -237,7 +237,7 @@ propagate_fuel {f = f} within k j s w h i =
 
 module _ {n : ℕ} {f : Formula} (within : Within n f) where
   -- settling from the state after a step ends where settling from the state before it does
-  pub explain_step : (e : Explained) → WellFormed n e.state → (a : Asked) {x t : Literal} → step f e.state ≡ some a → a.step ≡ Becomes x t →
+  pub explain_step : (e : Explained) → WellFormed n e.state → (a : Asked) {x t : Literal} → step f e.state ≡ Some a → a.step ≡ Becomes x t →
       explain n f (assign_by a.clause.0 x t e) ≡ explain n f e
   unfolding propagate_by
   explain_step e w a asked i =

@@ -2,7 +2,7 @@
 use mathlib.Core.Path.{◌≡◌, refl, sym, ◌∙◌}
 use mathlib.Core.Logic.{◌⊎◌, ◌≢◌, ◌↔◌, ⊎_elim}
 use mathlib.Core.List.{List, ◌∷◌, Memᴰ}
-use mathlib.Core.Option.{Option, none, some}
+use Rattle.std.specs.Prelude.{Option, None, Some}
 use Prim.Native.Nat.{ℕ, suc}
 use native.Mathlib.Omega.{arith}
 use Rattle.literal.specs.declared.Literal.{Literal}
@@ -39,15 +39,15 @@ module _ {n : ℕ} {f : Formula} (within : Within n f) where
       ends dead i q = absurd (let z : ◌≡◌ {A = ℕ} 0 1 = cc in omega arith)
       ends (rest w) i q = picks (branch_variable f w.state) refl q
         where
-          quiet : step f w.state ≡ none
+          quiet : step f w.state ≡ None
           quiet = let h : Ends n f e.state (settled.rest w.state) = rw (← settle_forgets n f e, i) at (settle_ends within e.state c.well) in h.rests
 
           well : WellFormed n w.state
           well = (settling_accounted within (suc n) e w c i).well
 
           picks : (o : Option ℕ) → branch_variable f w.state ≡ o → split_on_by n w o ≡ branch p u v → Splits e p u v
-          picks none j q = absurd (let z : ◌≡◌ {A = ℕ} 0 1 = cc in omega arith)
-          picks (some r) j q =
+          picks None j q = absurd (let z : ◌≡◌ {A = ℕ} 0 1 = cc in omega arith)
+          picks (Some r) j q =
               let at : r ≡ p = cc in
               let live : InLive f w.state r = (rw j at (branch_least f w.state (rests_closed f w.state quiet))).member in
               record { state = w; settles = i; on_open = rw at at (live_open well within live); left = cc; right = cc }

@@ -1,7 +1,7 @@
 -- A branch on a variable of a live clause: the side that makes its literal true closes at least three variables, so the tree needs at most N splits.
 use mathlib.Core.Path.{◌≡◌, refl, ap, sym, ◌∙◌}
 use mathlib.Core.Logic.{◌≢◌, ⊎_elim}
-use mathlib.Core.Option.{Option, none, some}
+use Rattle.std.specs.Prelude.{Option, None, Some}
 use mathlib.Core.List.{[], ◌∷◌, Memᴰ}
 use Prim.Native.Nat.{ℕ, suc, ◌+◌, ◌-◌, ◌<◌, ◌≤◌}
 use native.Mathlib.Decide.{ℕ_discrete}
@@ -29,7 +29,7 @@ use Rattle.theory.proofs.Bound.{N_branch}
 use Rattle.theory.proofs.Tree.{Narrower, Narrow, splits_le}
 
 -- where no rule fits every clause is closed
-pub rests_closed : (f : Formula) (s : State) → step f s ≡ none → (c : Clause) → Memᴰ c f → Closed (standing s c)
+pub rests_closed : (f : Formula) (s : State) → step f s ≡ None → (c : Clause) → Memᴰ c f → Closed (standing s c)
 rests_closed f s e c m = quiet_closed (standing s c) (standing_no_false s c) ((step_rests f s e).quiet c m)
 
 -- two more literals of a live clause beside x ----------------------------------------------------------------------
@@ -259,8 +259,8 @@ module _ {n : ℕ} {f : Formula} (within : Within n f) where
   narrow s m w h = go (settle n f s) (settle_ends s w) h
     where
       split : (u : State) → WellFormed n u → opens u n ≤ m → (o : Option ℕ) → IsLeast ◌≤◌ (InLive f u) o → Narrow N (WellFormed n) Leaves m (split_on n u o)
-      split u wu l none k = tt
-      split u wu l (some p) k = narrow_at u wu p k.member m l
+      split u wu l None k = tt
+      split u wu l (Some p) k = narrow_at u wu p k.member m l
 
       go : (o : Settled) → Ends n f s o → AtMost m o → Narrow N (WellFormed n) Leaves m (decided (branch_variable f) n o)
       go dead e l = tt

@@ -4,7 +4,7 @@ use mathlib.Core.Bool.{Bool, true, false, not, ◌||◌, cond}
 use mathlib.Core.Logic.{⊎_elim, ◌↔◌, ◌≢◌}
 use mathlib.Core.List.Memᴰ
 use mathlib.Core.List.{List, [], ◌∷◌, ◌++◌, map, Memᴰ}
-use mathlib.Core.Option.{Option, none, some}
+use Rattle.std.specs.Prelude.{Option, None, Some}
 use Prim.Native.Nat.{ℕ, zero, suc, ◌+◌, ◌<◌, ◌≤◌}
 use native.Mathlib.Omega.{arith}
 use lib.Dec.{ltb, eqb, eqb-suc-zero}
@@ -16,17 +16,17 @@ use Rattle.general.specs.Search.{first_place, place_none, none_placed}
 use Rattle.literal.specs.declared.Literal.{Literal}
 use Rattle.literal.specs.declared.Literal.TheVariants.{Pos, Neg}
 use Rattle.literal.specs.Literal.{var, literal_of, max_variables, max_clauses, max_literals}
-use Rattle.receipt.specs.Receipt.{number_of, unknown_variable, refusal}
+use Rattle.receipt.specs.Receipt.{number_of, unknown_variable, refusal, pass}
 use Rattle.receipt.specs.declared.Fault.{Fault}
 use Rattle.receipt.specs.declared.Fault.TheVariants.{TooManyVariables, TooManyClauses, TooManyLiterals, OpenClause}
-use Rattle.receipt.specs.declared.Checked.{Checked}
+use Rattle.std.specs.Prelude.{Ok, Err}
+use Rattle.receipt.specs.Receipt.{Checked}
 use Rattle.receipt.specs.declared.Refusal.{Refusal}
-use Rattle.receipt.specs.declared.Checked.TheVariants.{Passed, Refused}
 use Rattle.theory.specs.Formula.{Clause, Formula, clauses, push, Within}
 use Rattle.theory.specs.Table.{closes, zeros, nonzeros, ends_open, refused, is_unknown, table_unknown, check, Accepted, WithinLimits}
 
 -- a check that passes passed its first test, and the rest
-past : (b : Bool) (r : Refusal) (s : Checked) → cond b (Refused r) s ≡ Passed → (b ≡ false) × (s ≡ Passed)
+past : (b : Bool) (r : Refusal) (s : Checked) → cond b (Err r) s ≡ pass → (b ≡ false) × (s ≡ pass)
 past true r s e = absurd (let z : ◌≡◌ {A = ℕ} 0 1 = cc in omega arith)
 past false r s e = (refl, e)
 
@@ -71,14 +71,14 @@ ends_closed c (x ∷ t) h k =
 
 -- no entry's size is above n ------------------------------------------------------------------------------------------
 
-unknown_none : (t : List ℤ) (o : Option ℕ) → table_unknown t o ≡ Passed → o ≡ none
-unknown_none t none e = refl
-unknown_none t (some i) e = absurd (let z : ◌≡◌ {A = ℕ} 0 1 = cc in omega arith)
+unknown_none : (t : List ℤ) (o : Option ℕ) → table_unknown t o ≡ pass → o ≡ None
+unknown_none t None e = refl
+unknown_none t (Some i) e = absurd (let z : ◌≡◌ {A = ℕ} 0 1 = cc in omega arith)
 
-unknown_bound : (n : ℕ) (t : List ℤ) → table_unknown t (first_place (is_unknown n) 0 t) ≡ Passed → (e : ℤ) → Memᴰ e t → nat_abs e ≤ n
+unknown_bound : (n : ℕ) (t : List ℤ) → table_unknown t (first_place (is_unknown n) 0 t) ≡ pass → (e : ℤ) → Memᴰ e t → nat_abs e ≤ n
 unknown_bound n t h e m = ltb-false n (nat_abs e) (place_none (is_unknown n) 0 t (unknown_none t _ h) e m)
 
-bound_known : (n : ℕ) (t : List ℤ) → ((e : ℤ) → Memᴰ e t → nat_abs e ≤ n) → table_unknown t (first_place (is_unknown n) 0 t) ≡ Passed
+bound_known : (n : ℕ) (t : List ℤ) → ((e : ℤ) → Memᴰ e t → nat_abs e ≤ n) → table_unknown t (first_place (is_unknown n) 0 t) ≡ pass
 bound_known n t h = ap (table_unknown t) (none_placed (is_unknown n) 0 t (λ e m. le-ltb n (nat_abs e) (h e m)))
 
 -- the test of an operand of a strip and of an added list: a variable from 1 to n
@@ -131,9 +131,9 @@ module _ (n : ℕ) (t : List ℤ) where
 
 -- what is refused is refused with a number of at most k
 abbrev pub NumberAtMost : ℕ → Checked → Type 0
-NumberAtMost k c = (w : Refusal) → c ≡ Refused w → number_of w.fault ≤ k
+NumberAtMost k c = (w : Refusal) → c ≡ Err w → number_of w.fault ≤ k
 
-pub passed_at_most : (k : ℕ) → NumberAtMost k Passed
+pub passed_at_most : (k : ℕ) → NumberAtMost k pass
 passed_at_most k w e = absurd (let z : ◌≡◌ {A = ℕ} 0 1 = cc in omega arith)
 
 pub refused_at_most : (k : ℕ) (why : Fault) (i : ℕ) → number_of why ≤ k → NumberAtMost k (refused why i)
@@ -149,8 +149,8 @@ check_refuses n t =
     (λ _. unknown (first_place (is_unknown n) 0 t)))))
   where
     unknown : (o : Option ℕ) → NumberAtMost 5 (table_unknown t o)
-    unknown none = passed_at_most 5
-    unknown (some i) = refused_at_most 5 (unknown_variable (zeros (take i t) + 1)) i (omega arith)
+    unknown None = passed_at_most 5
+    unknown (Some i) = refused_at_most 5 (unknown_variable (zeros (take i t) + 1)) i (omega arith)
 
 -- literals ---------------------------------------------------------------------------------------------------------
 

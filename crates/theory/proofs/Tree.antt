@@ -3,7 +3,7 @@ use mathlib.Core.Path.{◌≡◌, refl, ap}
 use mathlib.Core.Logic.{◌⊎◌, inl, inr, ⊎_elim, ◌↔◌}
 use mathlib.Core.List.Memᴰ
 use mathlib.Core.List.{List, [], ◌∷◌, ◌++◌, Memᴰ, append-nil}
-use mathlib.Core.Option.{Option, none, some}
+use Rattle.std.specs.Prelude.{Option, None, Some}
 use Prim.Native.Nat.{ℕ, zero, suc, ◌+◌, ◌-◌, ◌≤◌, ◌<◌}
 use native.Mathlib.Omega.{arith}
 use lib.ListN.{length, length-append, length-map}
@@ -14,8 +14,8 @@ use Rattle.theory.specs.Tree.{Decision, dead, done, branch, Found, Run, through,
 
 -- the first choice that is found
 abbrev pub choice_found : {A : Type 0} → List (Found A) → Option A
-choice_found [] = none
-choice_found (a ∷ l) = some a.choice
+choice_found [] = None
+choice_found (a ∷ l) = Some a.choice
 
 module _ {S A : Type 0} (walk : ℕ → S → Run A) (s : S) where
   tried_agree : (walk' : ℕ → S → Run A) → ((k : ℕ) → walk k s ≡ walk' k s) → (k : ℕ) → tried walk k s ≡ tried walk' k s

@@ -1,6 +1,6 @@
 -- What the operations answer, and what they leave in the lists lent to them.
 use Rattle.std.specs.Prelude.{Bool, not, ◌||◌, cond, List, [], ◌∷◌, ◌++◌, ℕ, zero, suc, ◌+◌, ◌-◌, ◌*◌, ◌/◌, ◌%◌, min, ltb, eqb, ℤ, negsuc, pos as posℤ, length, replicate, take, drop}
-use Rattle.std.proofs.Math.Option.{Option, none, some}
+use Rattle.std.specs.Prelude.{Option, None, Some}
 use Rattle.general.specs.Lists.{up_to}
 use Rattle.general.specs.Search.{first_place}
 use Rattle.literal.specs.declared.Literal.{Literal}
@@ -8,28 +8,17 @@ use Rattle.literal.specs.declared.Literal.TheVariants.{Pos, Neg}
 use Rattle.literal.specs.Literal.{max_variables, max_clauses, max_literals, max_table}
 use Rattle.receipt.specs.declared.Fault.TheVariants.{TooManyClauses, TooManyLiterals, PlanShort, TrailShort, HeadsShort, ReceiptShort, UsedLengthWrong, StateShort, TableShort, StripShort, UnmentionedVariable, ReasonsShort, RowsShort, NoClause}
 use Rattle.receipt.specs.declared.Refusal.{Refusal}
-use Rattle.receipt.specs.declared.Checked.{Checked}
-use Rattle.receipt.specs.declared.Checked.TheVariants.{Passed}
+use Rattle.std.specs.Prelude.{Result, Ok, Err}
+use Rattle.receipt.specs.Receipt.{Checked, pass}
 use Rattle.receipt.specs.declared.Settling.{Settling}
+use Rattle.receipt.specs.declared.Searched.{Searched}
+use Rattle.receipt.specs.declared.Read.{Read}
+use Rattle.receipt.specs.declared.Listed.{Listed}
 use Rattle.receipt.specs.declared.Settling.TheVariants as settling
-use Rattle.receipt.specs.declared.Searching.{Searching}
-use Rattle.receipt.specs.declared.Searching.TheVariants as searching
-use Rattle.receipt.specs.declared.Listing.{Listing}
-use Rattle.receipt.specs.declared.Listing.TheVariants as listing
-use Rattle.receipt.specs.declared.Indexing.{Indexing}
-use Rattle.receipt.specs.declared.Indexing.TheVariants as indexing
 use Rattle.receipt.specs.declared.Head.{Head}
-use Rattle.receipt.specs.declared.Adding.{Adding}
-use Rattle.receipt.specs.declared.Adding.TheVariants as adding
-use Rattle.receipt.specs.declared.TakingBack.{TakingBack}
-use Rattle.receipt.specs.declared.TakingBack.TheVariants as taking_back
-use Rattle.receipt.specs.declared.Reading.{Reading}
-use Rattle.receipt.specs.declared.Reading.TheVariants as reading
-use Rattle.receipt.specs.declared.Saving.{Saving}
-use Rattle.receipt.specs.declared.Saving.TheVariants as saving
 use Rattle.receipt.specs.declared.Receipt.{Receipt}
 use Rattle.receipt.specs.Receipt.{number_of, unknown_variable}
-use Rattle.receipt.specs.Answers.{searching_receipt, read_variables}
+use Rattle.receipt.specs.Answers.{searching_receipt, read_variables, listing, searching}
 use Rattle.theory.specs.Formula.{Formula, Choice, clauses}
 use Rattle.theory.specs.Heads.{heads_of, last_start}
 use Rattle.theory.specs.SettledList.{decided}
@@ -39,7 +28,7 @@ use Rattle.theory.specs.Refusing.{refused_if, at_most, first_refusal, unless}
 use Rattle.theory.specs.Propagation.{Settled, dead, rest, settle}
 use Rattle.theory.specs.Reasons.{Explanation, unexplained, explain}
 use Rattle.theory.specs.Reasons as explanation
-use Rattle.theory.specs.Tree.{choices_found, Result}
+use Rattle.theory.specs.Tree.{choices_found, Limited}
 use Rattle.theory.specs.Search.{search, plan_of, trail_of}
 use Rattle.theory.specs.Listing.{list, rows_of}
 use Rattle.theory.specs.Mentions.{mentions_all}
@@ -59,9 +48,9 @@ state_entry (Neg zero) = negsuc max_variables
 state_entry (Pos (suc r)) = posℤ (suc r)
 state_entry (Neg (suc r)) = negsuc r
 
-abbrev pub settling_of : Settled → Settling
-settling_of dead = settling.NoLayout
-settling_of (rest s) = settling.Settled
+abbrev pub settling_of : Settled → Result Settling Refusal
+settling_of dead = (Ok settling.NoLayout)
+settling_of (rest s) = (Ok settling.Settled)
 
 -- "On a dead end they become 0."
 abbrev pub state_list : ℕ → Settled → List ℤ
@@ -74,7 +63,7 @@ reason_list n explanation.dead = replicate n 0
 reason_list n (explanation.rest e) = up_to e.reasons n
 
 pub record SettleCall : Type 0 where
-  pub answer : Settling
+  pub answer : Result Settling Refusal
   pub list : List ℤ
   pub reasons : List ℕ
 
@@ -84,7 +73,7 @@ settled_call n f l m =
     record { answer = settling_of s; list = over n (state_list n s) l; reasons = over n (reason_list n (explain n f (unexplained initial))) m }
 
 abbrev pub settle_refused : Refusal → List ℤ → List ℕ → SettleCall
-settle_refused r l m = record { answer = settling.Refused r; list = l; reasons = m }
+settle_refused r l m = record { answer = Err r; list = l; reasons = m }
 
 -- "Tables: 1, 2, 3, 4, 5, then .. 14 (settle)"; "Turned away: 19, reason list short, after 14" (A5)
 unfoldable pub settle_call : ℕ → List ℤ → List ℤ → List ℕ → SettleCall
@@ -96,19 +85,19 @@ settle_call n t l m =
 -- Search ----------------------------------------------------------------------------------------------------------
 
 pub record SearchCall : Type 0 where
-  pub answer : Searching
+  pub answer : Result Searched Refusal
   pub plan : List ℕ
   pub trail : List ℤ
 
-abbrev pub search_answer : Result Choice → Searching
-search_answer r = searching.Ended r.outcome r.count
+abbrev pub search_answer : Limited Choice → Result Searched Refusal
+search_answer r = searching r.outcome r.count
 
-abbrev pub searched_call : ℕ → Result Choice → List ℕ → List ℤ → SearchCall
+abbrev pub searched_call : ℕ → Limited Choice → List ℕ → List ℤ → SearchCall
 searched_call n r plan trail =
     record { answer = search_answer r; plan = over n (plan_of n r.found) plan; trail = over n (trail_of n r.found) trail }
 
 abbrev pub search_refused : Refusal → List ℕ → List ℤ → SearchCall
-search_refused r plan trail = record { answer = searching.Refused r; plan = plan; trail = trail }
+search_refused r plan trail = record { answer = Err r; plan = plan; trail = trail }
 
 -- "Tables: 1, 2, 3, 4, 5, then 6, 7 (search)"
 unfoldable pub search_call : ℕ → List ℤ → ℕ → List ℕ → List ℤ → SearchCall
@@ -120,19 +109,19 @@ search_call n t b plan trail =
 -- List ------------------------------------------------------------------------------------------------------------
 
 pub record ListCall : Type 0 where
-  pub answer : Listing
+  pub answer : Result Listed Refusal
   pub rows : List ℕ
 
 -- "place is the rows written, and the answer says "more" when a further one exists and otherwise not"
-abbrev pub list_answer : ℕ → Result Choice → Listing
-list_answer k r = listing.Ended r.outcome (min k (length r.found)) (ltb k (length r.found)) r.count
+abbrev pub list_answer : ℕ → Limited Choice → Result Listed Refusal
+list_answer k r = listing r.outcome (min k (length r.found)) (ltb k (length r.found)) r.count
 
 -- a stop finds nothing: "place 0, the first k times n bytes 0, no "more""
-abbrev pub listed_call : ℕ → ℕ → Result Choice → List ℕ → ListCall
+abbrev pub listed_call : ℕ → ℕ → Limited Choice → List ℕ → ListCall
 listed_call n k r rows = record { answer = list_answer k r; rows = over (k * n) (rows_of n k (choices_found r.found)) rows }
 
 abbrev pub list_refused : Refusal → List ℕ → ListCall
-list_refused r rows = record { answer = listing.Refused r; rows = rows }
+list_refused r rows = record { answer = Err r; rows = rows }
 
 -- "Turned away: 1 to 5, then 27, row room under k times n."
 unfoldable pub list_call : ℕ → List ℤ → ℕ → ℕ → List ℕ → ListCall
@@ -141,14 +130,14 @@ list_call n t k b rows = unless (first_refusal (check n t ∷ at_most (k * n) (l
 -- Index -----------------------------------------------------------------------------------------------------------
 
 pub record IndexCall : Type 0 where
-  pub answer : Indexing
+  pub answer : Checked
   pub heads : List Head
 
 abbrev pub index_refused : Refusal → List Head → IndexCall
-index_refused r hs = record { answer = indexing.Refused r; heads = hs }
+index_refused r hs = record { answer = Err r; heads = hs }
 
 abbrev pub indexed_call : List ℤ → List Head → IndexCall
-indexed_call t hs = record { answer = indexing.Indexed; heads = over (zeros t) (heads_of t) hs }
+indexed_call t hs = record { answer = pass; heads = over (zeros t) (heads_of t) hs }
 
 -- "Tables: 1, 2, 3, 4, 5, then .. 8 (index)"
 unfoldable pub index_call : ℕ → List ℤ → List Head → IndexCall
@@ -157,19 +146,19 @@ index_call n t hs = unless (first_refusal (check n t ∷ at_most (zeros t) (leng
 -- Add -------------------------------------------------------------------------------------------------------------
 
 pub record AddCall : Type 0 where
-  pub answer : Adding
+  pub answer : Result ℕ Refusal
   pub buffer : List ℤ
 
 abbrev pub add_refused : Refusal → List ℤ → AddCall
-add_refused r b = record { answer = adding.Refused r; buffer = b }
+add_refused r b = record { answer = Err r; buffer = b }
 
 -- "or a zero .. in an added list"
 abbrev pub is_wrong : ℕ → ℤ → Bool
 is_wrong n e = closes e || is_unknown n e
 
 abbrev pub list_unknown : ℕ → Option ℕ → Checked
-list_unknown k none = Passed
-list_unknown k (some i) = refused (unknown_variable k) i
+list_unknown k None = pass
+list_unknown k (Some i) = refused (unknown_variable k) i
 
 -- "5 on the list (place u plus its index there)"; k is the number that the added group would have (document 02, A2)
 unfoldable pub unknown_in : ℕ → ℕ → ℕ → List ℤ → Checked
@@ -180,7 +169,7 @@ abbrev pub added : ℕ → List ℤ → List ℤ → List ℤ
 added u g b = take u b ++ (g ++ (posℤ 0 ∷ drop (u + length g + 1) b))
 
 abbrev pub added_call : ℕ → List ℤ → List ℤ → AddCall
-added_call u g b = record { answer = adding.Added (u + length g + 1); buffer = added u g b }
+added_call u g b = record { answer = Ok (u + length g + 1); buffer = added u g b }
 
 -- "Add: 12, then 1 to 5 on the used part, 2 and 3 with the group added (each element of the list counts as an entry), 5 on the list": all but the room
 unfoldable pub check_group : ℕ → ℕ → List ℤ → List ℤ → Checked
@@ -199,11 +188,11 @@ add_call u n g b = unless (check_added u n g b (length b)) (λ r. add_refused r 
 -- Taking back -----------------------------------------------------------------------------------------------------
 
 pub record TakeBackCall : Type 0 where
-  pub answer : TakingBack
+  pub answer : Result ℕ Refusal
   pub buffer : List ℤ
 
 abbrev pub take_back_refused : Refusal → List ℤ → TakeBackCall
-take_back_refused r b = record { answer = taking_back.Refused r; buffer = b }
+take_back_refused r b = record { answer = Err r; buffer = b }
 
 -- "its elements and its closing zero become 0": those from v, the new used length, up to u
 abbrev pub cleared : ℕ → ℕ → List ℤ → List ℤ
@@ -211,7 +200,7 @@ cleared v u b = take v b ++ (replicate (u - v) (posℤ 0) ++ drop u b)
 
 -- "the last group of the used part is removed"
 abbrev pub taken_back_call : ℕ → List ℤ → TakeBackCall
-taken_back_call u b = let v = last_start (take u b) in record { answer = taking_back.TakenBack v; buffer = cleared v u b }
+taken_back_call u b = let v = last_start (take u b) in record { answer = Ok v; buffer = cleared v u b }
 
 -- "taking back has 12, 1 to 5, then 28, nothing to take back, when there is no group" (document 02, A7)
 unfoldable pub take_back_call : ℕ → ℕ → List ℤ → TakeBackCall
@@ -227,9 +216,9 @@ abbrev pub with_room : List ℤ → List ℤ → List ℤ
 with_room g b = b ++ replicate (length g + 1) (posℤ 0)
 
 -- Settle of the used part that Add leaves, unless Add refuses
-abbrev pub settle_after : Adding → ℕ → List ℤ → List ℤ → List ℕ → SettleCall
-settle_after (adding.Refused r) n b l m = settle_refused r l m
-settle_after (adding.Added u) n b l m = settle_call n (take u b) l m
+abbrev pub settle_after : Result ℕ Refusal → ℕ → List ℤ → List ℤ → List ℕ → SettleCall
+settle_after (Err r) n b l m = settle_refused r l m
+settle_after (Ok u) n b l m = settle_call n (take u b) l m
 
 -- "the state list and reasons, and .. the number, that settling would after adding it to a copy with room enough"; "add's refusals without 23, then 14, 19" (document 02, A7)
 unfoldable pub preview_call : ℕ → ℕ → List ℤ → List ℤ → List ℤ → List ℕ → SettleCall
@@ -240,7 +229,7 @@ preview_call u n g b l m =
 -- Read ------------------------------------------------------------------------------------------------------------
 
 pub record ReadCall : Type 0 where
-  pub answer : Reading
+  pub answer : Result Read Refusal
   pub table : List ℤ
 
 -- the table is written only where the whole strip passes
@@ -257,16 +246,16 @@ unfoldable pub save_check : ℕ → List ℤ → Checked
 save_check n t = first_refusal (check n t ∷ refused_if (not (mentions_all n t)) UnmentionedVariable ∷ [])
 
 pub record SaveCall : Type 0 where
-  pub answer : Saving
+  pub answer : Result ℕ Refusal
   pub strip : List ℕ
 
 -- "On refusal the strip buffer is untouched"
 abbrev pub save_refused : Refusal → List ℕ → SaveCall
-save_refused r s = record { answer = saving.Refused r; strip = s }
+save_refused r s = record { answer = Err r; strip = s }
 
 -- "past the written bytes it is untouched always"
 abbrev pub saved_call : List ℕ → List ℕ → SaveCall
-saved_call b s = record { answer = saving.Saved (length b); strip = over (length b) b s }
+saved_call b s = record { answer = Ok (length b); strip = over (length b) b s }
 
 -- "Turned away: 1 to 5 as for any table, then 25, strip room short."; 26 "in saving after 5 and before 25" (A3)
 unfoldable pub save_call : ℕ → List ℤ → List ℕ → SaveCall
@@ -277,9 +266,9 @@ save_call n t s =
 
 -- Solving a strip: reading it, and searching what was read ---------------------------------------------------------
 
-abbrev pub solve_read : Reading → List ℤ → ℕ → List ℕ → List ℤ → SearchCall
-solve_read (reading.Refused f) t b plan trail = search_refused f plan trail
-solve_read (reading.Read n u) t b plan trail = search_call n t b plan trail
+abbrev pub solve_read : Result Read Refusal → List ℤ → ℕ → List ℕ → List ℤ → SearchCall
+solve_read (Err f) t b plan trail = search_refused f plan trail
+solve_read (Ok d) t b plan trail = search_call d.variables t b plan trail
 
 -- there is room for the table of every strip within the limits
 unfoldable pub solve_call : List ℕ → ℕ → List ℕ → List ℤ → SearchCall

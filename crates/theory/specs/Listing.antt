@@ -1,6 +1,6 @@
 -- Show all layouts (document 02, A6): the tree that splits on the lowest open placement, walked past the first layout, and the rows.
 use Rattle.std.specs.Prelude.{List, [], ◌∷◌, ◌++◌, map, ℕ, suc, ◌*◌, ◌-◌, ℤ, length, take, replicate}
-use Rattle.std.proofs.Math.Option.{Option}
+use Rattle.std.specs.Prelude.{Option}
 use Rattle.general.specs.Booleans.{bit}
 use Rattle.general.specs.Lists.{up_to}
 use Rattle.general.specs.Search.{find}
@@ -9,7 +9,7 @@ use Rattle.literal.specs.Literal.{same}
 use Rattle.theory.specs.Formula.{Formula, Choice, clauses}
 use Rattle.theory.specs.State.{State, initial}
 use Rattle.theory.specs.Propagation.{settle}
-use Rattle.theory.specs.Tree.{Decision, Run, tree, Result, limited}
+use Rattle.theory.specs.Tree.{Decision, Run, tree, Limited, limited}
 use Rattle.theory.specs.Search.{decided}
 
 -- "the lowest open placement, live group or none"
@@ -32,7 +32,7 @@ abbrev pub list_needs : ℕ → List ℤ → ℕ → ℕ
 list_needs n t k = (list_tree n t k).splits
 
 -- the listing of a table for k rows with an allowance of b splits
-unfoldable pub list : ℕ → List ℤ → ℕ → ℕ → Result Choice
+unfoldable pub list : ℕ → List ℤ → ℕ → ℕ → Limited Choice
 list n t k b = limited b (list_tree n t k)
 
 -- layout after layout, a row of n bytes each

@@ -1,7 +1,7 @@
 -- "Choices are ordered from placement 1 on, 0 before 1", and the first choice with a property, or the first few.
 use Rattle.std.specs.Prelude.{◌≡◌, true, false, ◌≢◌, ◌⊎◌, ℕ, ◌≤◌, length}
 use mathlib.Core.List.{List, [], ◌∷◌, Memᴰ}
-use Rattle.std.proofs.Math.Option.{Option, none, some}
+use Rattle.std.specs.Prelude.{Option, None, Some}
 use Rattle.theory.specs.Formula.{Choice}
 
 -- the first is the second or comes before it
@@ -27,8 +27,8 @@ module _ {A : Type 0} (Le : A → A → Type 0) where
 
   -- the answer is the least with the property, or none where nothing has it
   abbrev pub IsLeast : (A → Type 0) → Option A → Type 0
-  IsLeast P none = (a : A) → ¬ P a
-  IsLeast P (some a) = Least P a
+  IsLeast P None = (a : A) → ¬ P a
+  IsLeast P (Some a) = Least P a
 
 -- "it is the first such choice": the first of the solutions of a formula, or none where it has no solution
 abbrev pub IsFirst : (Choice → Type 0) → Option Choice → Type 0

@@ -1,7 +1,7 @@
 -- A5, "Which rule settled it": settling that keeps, beside what each variable stands for, the number of the clause that settled or tied it.
 use Rattle.std.specs.Prelude.{◌≡◌, cond, ℕ, zero, suc, ◌-◌, ◌<◌, ◌≤◌, eqb, ℤ, length, get_or}
 use mathlib.Core.List.{List, [], ◌∷◌, Memᴰ}
-use Rattle.std.proofs.Math.Option.{Option, none, some}
+use Rattle.std.specs.Prelude.{Option, None, Some}
 use Rattle.literal.specs.declared.Literal.{Literal}
 use Rattle.literal.specs.declared.Literal.TheVariants.{Pos}
 use Rattle.literal.specs.Literal.{TRUE, FALSE, var}
@@ -13,7 +13,7 @@ use Rattle.theory.specs.State.{State, initial, assign, standing}
 use Rattle.theory.specs.Rules.{rule1, rule2, rule3, rule4, rule5, rule6, rule7, rule8}
 use Rattle.theory.specs.Propagation.{asked_by, step, Settled, propagate}
 use Rattle.theory.specs.Propagation as settled
-use Rattle.theory.specs.Tree.{Decision, done, branch, Run, tree, Result, limited}
+use Rattle.theory.specs.Tree.{Decision, done, branch, Run, tree, Limited, limited}
 use Rattle.theory.specs.Tree as t
 use Rattle.theory.specs.Search.{branch_variable, choice_of}
 
@@ -54,8 +54,8 @@ act_by go e k (Becomes x t) = go (assign_by k x t e)
 
 -- each step carries its clause, of a pair "the later of the two"
 abbrev pub follow_by : (Explained → Explanation) → Explained → Option Asked → Explanation
-follow_by go e none = rest e
-follow_by go e (some a) = act_by go e a.clause.0 a.step
+follow_by go e None = rest e
+follow_by go e (Some a) = act_by go e a.clause.0 a.step
 
 -- the steps are those of settling as it was
 unfoldable pub propagate_by : ℕ → Formula → Explained → Explanation
@@ -85,9 +85,9 @@ pair_rules = rule7 ∷ rule8 ∷ []
 
 -- a rule asks a step of clause k alone, or "for rules 7 and 8 the later of the two" is clause k, and j the earlier
 pub data AskedOf (f : Formula) (s : State) (k : ℕ) (d : Step) : Type 0 where
-  alone : (rule : Clause → Option Step) → Memᴰ rule clause_rules → rule (standing s (numbered f k)) ≡ some d → AskedOf f s k d
+  alone : (rule : Clause → Option Step) → Memᴰ rule clause_rules → rule (standing s (numbered f k)) ≡ Some d → AskedOf f s k d
   paired : (rule : Clause → Clause → Option Step) → Memᴰ rule pair_rules → (j : ℕ) → 0 < j → j < k →
-      rule (standing s (numbered f j)) (standing s (numbered f k)) ≡ some d → AskedOf f s k d
+      rule (standing s (numbered f j)) (standing s (numbered f k)) ≡ Some d → AskedOf f s k d
 
 -- clause k holds p, or a variable that is tied to p in the state
 pub record Holds (f : Formula) (s : State) (k p : ℕ) : Type 0 where
@@ -105,7 +105,7 @@ pub record SettledBy (f : Formula) (p k : ℕ) : Type 0 where
   pub is_open : state p ≡ Pos p
   pub literal : Literal
   pub becomes : Literal
-  pub asked : step f state ≡ some (asked_by k (Becomes literal becomes))
+  pub asked : step f state ≡ Some (asked_by k (Becomes literal becomes))
   pub its_variable : var literal ≡ p
   pub asker : AskedOf f state k (Becomes literal becomes)
   pub holder : Holds f state k p
@@ -114,8 +114,8 @@ pub record SettledBy (f : Formula) (p k : ℕ) : Type 0 where
 
 -- "0 .. when decided by a split"
 abbrev pub split_on_by : ℕ → Explained → Option ℕ → Decision Explained Choice
-split_on_by n e none = done (choice_of n e.state)
-split_on_by n e (some p) = branch p (assign_by 0 (Pos p) FALSE e) (assign_by 0 (Pos p) TRUE e)
+split_on_by n e None = done (choice_of n e.state)
+split_on_by n e (Some p) = branch p (assign_by 0 (Pos p) FALSE e) (assign_by 0 (Pos p) TRUE e)
 
 abbrev pub ended_by : ℕ → Formula → Explanation → Decision Explained Choice
 ended_by n f dead = t.dead
@@ -127,7 +127,7 @@ decide_by n f e = ended_by n f (explain n f e)
 unfoldable pub tree_by : ℕ → Formula → Run Choice
 tree_by n f = tree (decide_by n f) (suc n) 1 (unexplained initial)
 
-unfoldable pub search_by : ℕ → List ℤ → ℕ → Result Choice
+unfoldable pub search_by : ℕ → List ℤ → ℕ → Limited Choice
 search_by n t b = limited b (tree_by n (clauses t))
 
 -- a state from which that search settles, with the variables that splits decided on the way to it

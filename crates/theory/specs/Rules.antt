@@ -1,6 +1,6 @@
 -- Rules 1 to 8 of document 01. Each looks at one clause as it stands, or at two, and may ask a step.
 use Rattle.std.specs.Prelude.{Bool, true, false, not, ◌&&◌, ◌||◌, cond, [], ◌∷◌, ℕ, ◌+◌, eqb, leb, ltb, length}
-use Rattle.std.proofs.Math.Option.{Option, none, some, map, bind}
+use Rattle.std.specs.Prelude.{Option, None, Some, option_map, option_and_then}
 use Rattle.general.specs.Booleans.{bit}
 use Rattle.general.specs.Search.{find, any}
 use Rattle.literal.specs.declared.Literal.{Literal}
@@ -25,11 +25,11 @@ abbrev pub differ : Literal → Literal → Bool
 differ x y = not (eqb (var x) (var y))
 
 abbrev pub when : Bool → Option Step → Option Step
-when b o = cond b o none
+when b o = cond b o None
 
 -- the literal that was found becomes false
 abbrev pub becomes_false : Option Literal → Option Step
-becomes_false = map (λ x. Becomes x FALSE)
+becomes_false = option_map (λ x. Becomes x FALSE)
 
 -- exactly one of x and y is true: "tie the higher placement to the lower"
 abbrev pub tie : Literal → Literal → Step
@@ -37,7 +37,7 @@ tie x y = cond (ltb (var x) (var y)) (Becomes y (opposite x)) (Becomes x (opposi
 
 -- 1. Two true entries, or none true and none open: dead end.
 abbrev pub rule1 : Clause → Option Step
-rule1 c = when (leb 2 (occurs TRUE c) || eqb (length c) 0) (some DeadEnd)
+rule1 c = when (leb 2 (occurs TRUE c) || eqb (length c) 0) (Some DeadEnd)
 
 -- 2. One true: the first open entry becomes false.
 abbrev pub rule2 : Clause → Option Step
@@ -45,9 +45,9 @@ rule2 c = when (eqb (occurs TRUE c) 1) (becomes_false (find is_open c))
 
 -- 3. None true, one open: it becomes true.
 abbrev pub rule3 : Clause → Option Step
-rule3 [] = none
-rule3 (x ∷ []) = when (is_open x) (some (Becomes x TRUE))
-rule3 (x ∷ y ∷ c) = none
+rule3 [] = None
+rule3 (x ∷ []) = when (is_open x) (Some (Becomes x TRUE))
+rule3 (x ∷ y ∷ c) = None
 
 -- 4. None true, an open entry stands twice with one sign: it becomes false.
 abbrev pub rule4 : Clause → Option Step
@@ -63,23 +63,23 @@ other c x = find (λ y. differ x y) c
 
 -- 5. None true, an entry and its opposite stand: the first entry of a placement other than the first such one becomes false.
 abbrev pub rule5 : Clause → Option Step
-rule5 c = when (none_true c) (becomes_false (bind (complementary c) (other c)))
+rule5 c = when (none_true c) (becomes_false (option_and_then (other c) (complementary c)))
 
 -- 6. None true, two open entries of different placements and nothing else: tie them.
 abbrev pub rule6 : Clause → Option Step
-rule6 [] = none
-rule6 (x ∷ []) = none
-rule6 (x ∷ y ∷ []) = when (is_open x && is_open y && differ x y) (some (tie x y))
-rule6 (x ∷ y ∷ z ∷ c) = none
+rule6 [] = None
+rule6 (x ∷ []) = None
+rule6 (x ∷ y ∷ []) = when (is_open x && is_open y && differ x y) (Some (tie x y))
+rule6 (x ∷ y ∷ z ∷ c) = None
 
 abbrev pub is_none : Option Literal → Bool
-is_none none = true
-is_none (some x) = false
+is_none None = true
+is_none (Some x) = false
 
 -- "If there is none the group is at rest": an entry and its opposite stand, and no entry of another placement
 abbrev pub rests_on : Clause → Option Literal → Bool
-rests_on c none = false
-rests_on c (some x) = is_none (other c x)
+rests_on c None = false
+rests_on c (Some x) = is_none (other c x)
 
 abbrev pub at_rest : Clause → Bool
 at_rest c = none_true c && rests_on c (complementary c)
@@ -103,4 +103,4 @@ abbrev pub pair_in : Clause → Clause → Option Literal
 pair_in g h = find (λ x. stands (opposite x) h && not (is_none (partner g h x))) g
 
 abbrev pub rule8 : Clause → Clause → Option Step
-rule8 g h = when (live g && live h) (bind (pair_in g h) (λ x. map (tie x) (partner g h x)))
+rule8 g h = when (live g && live h) (option_and_then (λ x. option_map (tie x) (partner g h x)) (pair_in g h))

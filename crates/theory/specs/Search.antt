@@ -1,6 +1,6 @@
 -- The search of document 01: what is decided after settling, and the tree from the initial state.
 use Rattle.std.specs.Prelude.{cond, List, [], ◌∷◌, ◌++◌, map, ℕ, suc, ◌-◌, min, eqb, ℤ, pos as posℤ, length, replicate}
-use Rattle.std.proofs.Math.Option.{Option, none, some}
+use Rattle.std.specs.Prelude.{Option, None, Some}
 use Rattle.general.specs.Booleans.{bit}
 use Rattle.general.specs.Lists.{up_to}
 use Rattle.literal.specs.declared.Literal.TheVariants.{Pos}
@@ -9,7 +9,7 @@ use Rattle.theory.specs.Formula.{Clause, Formula, Assignment, holds, Choice, cla
 use Rattle.theory.specs.State.{State, initial, assign, standing}
 use Rattle.theory.specs.Rules.{live}
 use Rattle.theory.specs.Propagation.{Settled, dead, rest, settle}
-use Rattle.theory.specs.Tree.{Decision, done, branch, Found, Run, tree, Result, limited}
+use Rattle.theory.specs.Tree.{Decision, done, branch, Found, Run, tree, Limited, limited}
 use Rattle.theory.specs.Tree as t
 
 -- the variables that stand in live clauses
@@ -18,11 +18,11 @@ live_variables [] = []
 live_variables (c ∷ g) = cond (live c) (map var c) [] ++ live_variables g
 
 abbrev pub lower : ℕ → Option ℕ → Option ℕ
-lower p none = some p
-lower p (some q) = some (min p q)
+lower p None = Some p
+lower p (Some q) = Some (min p q)
 
 unfoldable pub lowest : List ℕ → Option ℕ
-lowest [] = none
+lowest [] = None
 lowest (p ∷ l) = lower p (lowest l)
 
 -- "the lowest open placement standing in a live group"; none where there is no live group
@@ -39,8 +39,8 @@ choice_of n s = up_to (λ p. holds only_constant (s p)) n
 
 -- "try it left out, and only if that has no layout try it taken"; "The second side starts from the state as it was before the split"
 abbrev pub split_on : ℕ → State → Option ℕ → Decision State Choice
-split_on n s none = done (choice_of n s)
-split_on n s (some p) = branch p (assign (Pos p) FALSE s) (assign (Pos p) TRUE s)
+split_on n s None = done (choice_of n s)
+split_on n s (Some p) = branch p (assign (Pos p) FALSE s) (assign (Pos p) TRUE s)
 
 -- what settling leaves: a dead end, or a state of which one variable is picked, if any is, to split on
 abbrev pub decided : (State → Option ℕ) → ℕ → Settled → Decision State Choice
@@ -64,7 +64,7 @@ abbrev pub needs : ℕ → List ℤ → ℕ
 needs n t = (tree_of n (clauses t)).splits
 
 -- the search of a table with an allowance of b splits
-unfoldable pub search : ℕ → List ℤ → ℕ → Result Choice
+unfoldable pub search : ℕ → List ℤ → ℕ → Limited Choice
 search n t b = limited b (tree_of n (clauses t))
 
 -- "the first n of the plan are the choice"; "No layout or stopped: the first n of both become 0"

@@ -1,26 +1,24 @@
 -- The strip: its commands, where each is allowed, and what reading one makes of a table.
+use Rattle.receipt.specs.Answers.{reading}
 use Rattle.std.specs.Prelude.{Bool, true, false, ◌||◌, cond, List, [], ◌∷◌, ◌++◌, ℕ, zero, suc, ◌+◌, ◌*◌, eqb, leb, ltb, ℤ, pos, length, get_or}
-use Rattle.std.proofs.Math.Option.{Option, none, some}
+use Rattle.std.specs.Prelude.{Option, None, Some}
 use Rattle.general.specs.Search.{find}
 use Rattle.literal.specs.declared.Literal.{Literal}
 use Rattle.literal.specs.declared.Literal.TheVariants.{Pos, Neg}
 use Rattle.literal.specs.Literal.{var, entry_of, max_variables, max_clauses, max_literals}
 use Rattle.receipt.specs.declared.Fault.TheVariants.{TooManyVariables, TooManyClauses, TooManyLiterals, UnknownMark, CutStrip, OutOfTurn, TableShort, StripTooLong, UnmentionedVariable}
+use Rattle.receipt.specs.declared.Fault.{Fault}
 use Rattle.receipt.specs.declared.Refusal.{Refusal}
-use Rattle.receipt.specs.declared.Reading.{Reading}
-use Rattle.receipt.specs.declared.Reading.TheVariants as reading
+use Rattle.std.specs.Prelude.{Result, Ok, Err}
+use Rattle.receipt.specs.declared.Read.{Read}
 use Rattle.receipt.specs.Receipt.{unknown_variable, refusal}
 use Rattle.theory.specs.declared.Mark.{Mark}
 use Rattle.theory.specs.declared.Mark.TheVariants.{Placements, Chapter, Opens, Taken, LeftOut, Closes, Ends}
 use Rattle.theory.specs.declared.Turn.{Turn}
 use Rattle.theory.specs.declared.Turn.TheVariants.{Start, Outside, Inside, After}
 use Rattle.theory.specs.declared.Command.{Command}
-use Rattle.theory.specs.declared.Command.TheVariants as command
 use Rattle.theory.specs.declared.Progress.{Progress}
 use Rattle.theory.specs.declared.Obeyed.{Obeyed}
-use Rattle.theory.specs.declared.Obeyed.TheVariants.{Goes, Refused}
-use Rattle.theory.specs.declared.Stored.{Stored}
-use Rattle.theory.specs.declared.Stored.TheVariants.{Nothing, Element}
 use Rattle.theory.specs.Mentions.{mentions_all}
 
 -- Commands ----------------------------------------------------------------------------------------------------------
@@ -84,17 +82,20 @@ same After After = true
 abbrev pub operand_at : List ℕ → ℕ → ℕ → ℕ
 operand_at s i k = cond (eqb k 0) 0 (cond (eqb k 1) (get_or s (i + 1) 0) (get_or s (i + 1) 0 * 256 + get_or s (i + 2) 0))
 
--- "command by command 20, 22, 21": the command at index i
-abbrev pub command_of : List ℕ → ℕ → Turn → Option Mark → Command
-command_of s i t none = command.Refused (refusal UnknownMark i)
-command_of s i t (some m) =
+abbrev pub commands : Mark → ℕ → ℕ → Result Command Refusal
+commands m v j = Ok (record { mark = m; operand = v; next = j })
+
+-- "command by command 20, 22, 21": the command at index i, "or a refusal with its place"
+abbrev pub command_of : List ℕ → ℕ → Turn → Option Mark → Result Command Refusal
+command_of s i t None = Err (refusal UnknownMark i)
+command_of s i t (Some m) =
     cond (same t (turn_of m))
     (cond (leb (i + 1 + operand_bytes m) (length s))
-    (command.Command m (operand_at s i (operand_bytes m)) (i + 1 + operand_bytes m))
-    (command.Refused (refusal CutStrip i)))
-    (command.Refused (refusal OutOfTurn i))
+    (commands m (operand_at s i (operand_bytes m)) (i + 1 + operand_bytes m))
+    (Err (refusal CutStrip i)))
+    (Err (refusal OutOfTurn i))
 
-unfoldable pub command_at : List ℕ → ℕ → Turn → Command
+unfoldable pub command_at : List ℕ → ℕ → Turn → Result Command Refusal
 command_at s i t = command_of s i t (mark_of (get_or s i 0))
 
 -- What a command does -----------------------------------------------------------------------------------------------
@@ -105,65 +106,78 @@ progress t n c l = record { turn = t; variables = n; clauses = c; literals = l }
 abbrev pub nothing_read : Progress
 nothing_read = progress Start 0 0 0
 
+-- a command that is not refused: the numbers after it, and what it stores
+abbrev pub obeyed : Progress → Option ℤ → Result Obeyed Fault
+obeyed q e = Ok (record { progress = q; stored = e })
+
 -- an entry: "value (1 or 5), limit (.., 3 at the 2,049th entry)"; 5 names the group that is open, the last one opened
-abbrev pub entered : Progress → Literal → Obeyed
+abbrev pub entered : Progress → Literal → Result Obeyed Fault
 entered p l =
-    cond (eqb (var l) 0 || ltb p.variables (var l)) (Refused (unknown_variable p.clauses))
+    cond (eqb (var l) 0 || ltb p.variables (var l)) (Err (unknown_variable p.clauses))
     (cond (ltb p.literals max_literals)
-    (Goes (progress Inside p.variables p.clauses (p.literals + 1)) (Element (entry_of l)))
-    (Refused TooManyLiterals))
+    (obeyed (progress Inside p.variables p.clauses (p.literals + 1)) (Some (entry_of l)))
+    (Err TooManyLiterals))
+
+-- the number of placements, the opening of a group, and its closing
+abbrev pub declared : Progress → ℕ → Result Obeyed Fault
+declared p n = cond (ltb max_variables n) (Err TooManyVariables) (obeyed (progress Outside n p.clauses p.literals) None)
+
+abbrev pub opened : Progress → Result Obeyed Fault
+opened p = cond (ltb p.clauses max_clauses) (obeyed (progress Inside p.variables (p.clauses + 1) p.literals) None) (Err TooManyClauses)
+
+abbrev pub closed : Progress → Result Obeyed Fault
+closed p = obeyed (progress Outside p.variables p.clauses p.literals) (Some (pos 0))
 
 -- the end mark: it may stand here, or it is "26, unnamed placement, in reading at the end mark" (document 02, A3)
-abbrev pub ended : Progress → Bool → Obeyed
-ended p may = cond may (Goes (progress After p.variables p.clauses p.literals) Nothing) (Refused UnmentionedVariable)
+abbrev pub ended : Progress → Bool → Result Obeyed Fault
+ended p may = cond may (obeyed (progress After p.variables p.clauses p.literals) None) (Err UnmentionedVariable)
 
 -- what a command with operand v does: limits are counted over the whole filing, "2 at the 513th opening", "Chapters don't change the table",
 -- "entries and closings each need an element"; may says whether the end mark may stand here
-unfoldable pub obey : Progress → Bool → ℕ → Mark → Obeyed
-obey p may v Placements = cond (ltb max_variables v) (Refused TooManyVariables) (Goes (progress Outside v p.clauses p.literals) Nothing)
-obey p may v Chapter = Goes p Nothing
-obey p may v Opens =
-    cond (ltb p.clauses max_clauses) (Goes (progress Inside p.variables (p.clauses + 1) p.literals) Nothing) (Refused TooManyClauses)
+unfoldable pub obey : Progress → Bool → ℕ → Mark → Result Obeyed Fault
+obey p may v Placements = declared p v
+obey p may v Chapter = obeyed p None
+obey p may v Opens = opened p
 obey p may v Taken = entered p (Pos v)
 obey p may v LeftOut = entered p (Neg v)
-obey p may v Closes = Goes (progress Outside p.variables p.clauses p.literals) (Element (pos 0))
+obey p may v Closes = closed p
 obey p may v Ends = ended p may
 
 -- The whole strip ---------------------------------------------------------------------------------------------------
 
 -- the answer, and the table that was read; a refused strip has none
 pub record Decoding : Type 0 where
-  pub reading : Reading
+  pub reading : Result Read Refusal
   pub table : List ℤ
 
 abbrev pub not_read : Refusal → Decoding
-not_read f = record { reading = reading.Refused f; table = [] }
+not_read f = record { reading = Err f; table = [] }
 
 -- at the end of a strip of n bytes, with u elements read: "Missing 5A: place is the strip's length"
-abbrev pub ending : ℕ → Progress → ℕ → Reading
-ending n p u = cond (same p.turn After) (reading.Read p.variables u) (reading.Refused (refusal CutStrip n))
+abbrev pub ending : ℕ → Progress → ℕ → Result Read Refusal
+ending n p u = cond (same p.turn After) (reading p.variables u) (Err (refusal CutStrip n))
 
 abbrev pub finish : List ℕ → Progress → List ℤ → Decoding
 finish s p t = record { reading = ending (length s) p (length t); table = cond (same p.turn After) t [] }
 
 module _ (room : ℕ) where
   -- last of all 23, "no room for the next element"; i is the command's place
-  abbrev pub storing : (List ℤ → Decoding) → ℕ → List ℤ → Stored → Decoding
-  storing go i t Nothing = go t
-  storing go i t (Element e) = cond (ltb (length t) room) (go (t ++ (e ∷ []))) (not_read (refusal TableShort i))
+  abbrev pub storing : (List ℤ → Decoding) → ℕ → List ℤ → Option ℤ → Decoding
+  storing go i t None = go t
+  storing go i t (Some e) = cond (ltb (length t) room) (go (t ++ (e ∷ []))) (not_read (refusal TableShort i))
 
-  abbrev pub onward : (Progress → List ℤ → Decoding) → ℕ → List ℤ → Obeyed → Decoding
-  onward go i t (Goes p e) = storing (go p) i t e
-  onward go i t (Refused why) = not_read (refusal why i)
+  abbrev pub onward : (Progress → List ℤ → Decoding) → ℕ → List ℤ → Result Obeyed Fault → Decoding
+  onward go i t (Ok o) = storing (go o.progress) i t o.stored
+  onward go i t (Err why) = not_read (refusal why i)
 
 -- whether the end mark may stand after the table of so many placements that was read
 abbrev pub EndRule : Type 0
 EndRule = ℕ → List ℤ → Bool
 
 module _ (rule : EndRule) (s : List ℕ) (room : ℕ) where
-  abbrev pub follow : (ℕ → Progress → List ℤ → Decoding) → ℕ → Progress → List ℤ → Command → Decoding
-  follow go i p t (command.Command m v next) = onward room (go next) i t (obey p (rule p.variables t) v m)
-  follow go i p t (command.Refused f) = not_read f
+  abbrev pub follow : (ℕ → Progress → List ℤ → Decoding) → ℕ → Progress → List ℤ → Result Command Refusal → Decoding
+  follow go i p t (Ok c) = onward room (go c.next) i t (obey p (rule p.variables t) c.operand c.mark)
+  follow go i p t (Err f) = not_read f
 
   -- command by command, with fuel for k - 1 commands
   unfoldable pub read_from : ℕ → ℕ → Progress → List ℤ → Decoding

@@ -1,15 +1,15 @@
 -- What every operation asks of a table first: document 01's refusals 1 to 5, each over the whole table before the next.
 use Rattle.std.specs.Prelude.{Bool, false, not, cond, ◌≡◌, ℕ, ◌+◌, ◌≤◌, ltb, eqb, ℤ, nat_abs, pos as posℤ, take}
 use mathlib.Core.List.{List, [], ◌∷◌, ◌++◌, Memᴰ}
-use Rattle.std.proofs.Math.Option.{Option, none, some}
+use Rattle.std.specs.Prelude.{Option, None, Some}
 use Rattle.general.specs.Booleans.{bit}
 use Rattle.general.specs.Search.{first_place}
 use Rattle.literal.specs.Literal.{max_variables, max_clauses, max_literals}
 use Rattle.receipt.specs.declared.Fault.{Fault}
 use Rattle.receipt.specs.declared.Fault.TheVariants.{TooManyVariables, TooManyClauses, TooManyLiterals, OpenClause}
-use Rattle.receipt.specs.Receipt.{unknown_variable, refusal}
-use Rattle.receipt.specs.declared.Checked.{Checked}
-use Rattle.receipt.specs.declared.Checked.TheVariants.{Passed, Refused}
+use Rattle.receipt.specs.Receipt.{unknown_variable, refusal, pass}
+use Rattle.std.specs.Prelude.{Ok, Err}
+use Rattle.receipt.specs.Receipt.{Checked}
 
 abbrev pub closes : ℤ → Bool
 closes e = eqb (nat_abs e) 0
@@ -30,7 +30,7 @@ ends_open b [] = b
 ends_open b (e ∷ t) = ends_open (not (closes e)) t
 
 abbrev pub refused : Fault → ℕ → Checked
-refused why at = Refused (refusal why at)
+refused why at = Err (refusal why at)
 
 -- "entry's size above n"
 abbrev pub is_unknown : ℕ → ℤ → Bool
@@ -38,8 +38,8 @@ is_unknown n e = ltb n (nat_abs e)
 
 -- "Place of 5 is the first wrong index"; its group's number (document 02, A2) is one more than the zeros before it
 abbrev pub table_unknown : List ℤ → Option ℕ → Checked
-table_unknown t none = Passed
-table_unknown t (some i) = refused (unknown_variable (zeros (take i t) + 1)) i
+table_unknown t None = pass
+table_unknown t (Some i) = refused (unknown_variable (zeros (take i t) + 1)) i
 
 unfoldable pub check : ℕ → List ℤ → Checked
 check n t =
@@ -51,7 +51,7 @@ check n t =
 
 -- the check passes
 abbrev pub Accepted : ℕ → List ℤ → Type 0
-Accepted n t = check n t ≡ Passed
+Accepted n t = check n t ≡ pass
 
 -- "within the limits of document 01": the same without an order of refusals
 pub record WithinLimits (n : ℕ) (t : List ℤ) : Type 0 where

@@ -54,26 +54,26 @@ module _ {S A : Type 0} where
   tree decide (suc f) k s = visit (tree decide f) k (decide s)
 
 -- how a search ends, its count, and what it found
-pub record Result (A : Type 0) : Type 0 where
+pub record Limited (A : Type 0) : Type 0 where
   pub outcome : Outcome
   pub count : ℕ
   pub found : List (Found A)
 
 module _ {A : Type 0} where
-  abbrev pub result : Outcome → ℕ → List (Found A) → Result A
+  abbrev pub result : Outcome → ℕ → List (Found A) → Limited A
   result o k l = record { outcome = o; count = k; found = l }
 
   abbrev pub finished : List (Found A) → Outcome
   finished [] = NoLayout
   finished (a ∷ l) = LaidOut
 
-  abbrev pub finish : Run A → Result A
+  abbrev pub finish : Run A → Limited A
   finish r = result (finished r.found) r.splits r.found
 
   -- "A stop's count is the allowance"
-  abbrev pub stop : ℕ → Result A
+  abbrev pub stop : ℕ → Limited A
   stop b = result Stopped b []
 
   -- "A search is stopped when a split is needed and the allowance is used up"
-  unfoldable pub limited : ℕ → Run A → Result A
+  unfoldable pub limited : ℕ → Run A → Limited A
   limited b r = cond (leb r.splits b) (finish r) (stop b)

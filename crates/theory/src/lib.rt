@@ -2,7 +2,6 @@
 #![tactic(auto)]
 
 use literal::{ClauseNumber, Literal};
-use receipt::{Fault, Refusal};
 
 // What a rule asks: a dead end, or that an open literal becomes another.
 #[derive(Clone, Copy)]
@@ -19,7 +18,7 @@ pub struct Asked {
 }
 
 // The commands of a strip.
-#[derive(Clone, Copy)]
+#[derive(Clone, Copy, PartialEq, Eq)]
 pub enum Mark {
     Placements,
     Chapter,
@@ -31,7 +30,7 @@ pub enum Mark {
 }
 
 // Where a strip is read: before the placements, outside a group, inside one, after the end.
-#[derive(Clone, Copy)]
+#[derive(Clone, Copy, PartialEq, Eq)]
 pub enum Turn {
     Start,
     Outside,
@@ -39,11 +38,12 @@ pub enum Turn {
     After,
 }
 
-// "a command gives its mark and operand", and the index of the next one, "or a refusal with its place".
+// "a command gives its mark and operand", and the index of the next one.
 #[derive(Clone, Copy)]
-pub enum Command {
-    Command(Mark, u16, usize),
-    Refused(Refusal),
+pub struct Command {
+    pub mark: Mark,
+    pub operand: u16,
+    pub next: usize,
 }
 
 // The numbers that are kept of what has been read: placements, opened groups and entries, over the whole filing.
@@ -55,16 +55,9 @@ pub struct Progress {
     pub literals: u16,
 }
 
-// What a command stores in the table.
+// What a command does that is not refused: the numbers after it, and the element that it stores in the table, where it stores one.
 #[derive(Clone, Copy)]
-pub enum Stored {
-    Nothing,
-    Element(i16),
-}
-
-// What a command does: the numbers after it and what it stores, or why it is refused.
-#[derive(Clone, Copy)]
-pub enum Obeyed {
-    Goes(Progress, Stored),
-    Refused(Fault),
+pub struct Obeyed {
+    pub progress: Progress,
+    pub stored: Option<i16>,
 }

@@ -12,13 +12,13 @@ use Rattle.general.specs.Times.{times}
 use Rattle.general.specs.Repeats.{times_cons}
 use Rattle.literal.specs.Literal.{literal_at, max_variables}
 use Rattle.literal.proofs.Codes.{var_at}
-use Rattle.tally.specs.Tally.{Tally}
 use Rattle.tally.specs.Ring.{Ring, Classes}
 use Rattle.tally.specs.Counts.{load, roots}
 use Rattle.tally.proofs.Stretches.{chain_move}
 use Rattle.tally.proofs.Turned.{moved_over, stays, class_kept, classes_turned, roots_turned}
 use Rattle.tie.specs.Turning.{Turnable, Turned, Joined, swapped, with_swapped}
 use Rattle.tie.proofs.Swaps.{swapped_other, swap_arc}
+use Rattle.tally.specs.declared.Tally.{Tally}
 
 module _ {tally after : Tally} {x t : ℕ} (d : Turnable tally x t) (u : Turned tally x t after) where
   abbrev old : ℕ → ℕ

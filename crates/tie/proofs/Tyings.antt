@@ -21,11 +21,11 @@ use Rattle.theory.proofs.DistinctBut.{distinct_weaken, distinct_tied, distinct_l
 use Rattle.theory.proofs.Falls.{Falls, falls_steps, falls_wide, falls_mentions, falls_adds, falls_distinct}
 use Rattle.occurrences.specs.Index.{clause_count, clause_of, formula_of, width}
 use Rattle.occurrences.proofs.Formulas.{formula_mem}
-use Rattle.tally.specs.Tally.{tally_of, state_in, count_in}
+use Rattle.tally.specs.Tally.{state_in, count_in}
 use Rattle.tally.specs.Counts.{trues_of, opens_of, Exact}
 use Rattle.tally.proofs.Standing.{opens_standing, trues_standing}
 use Rattle.notes.specs.declared.Block.{Block}
-use Rattle.notes.specs.Notes.{notes_of, block_at, Gathered, max_blocks}
+use Rattle.notes.specs.Notes.{block_at, Gathered}
 use Rattle.moves.specs.Sound.{Sound}
 use Rattle.moves.specs.Moving.{Noting, Moved}
 use Rattle.moves.specs.Listing.{ListsIn, Listed, SpansIn, Blocks, Carried}
@@ -41,8 +41,11 @@ use Rattle.undouble.specs.Doubling.{Once, DoublingAll, UndoubledAll}
 use Rattle.tie.specs.Keeping.{WideWith, Kept}
 use Rattle.tie.specs.Tying.{Tieable, Tied, TieOf}
 use Rattle.tie.proofs.Between.{joined_followed, joined_sides, joined_lists, joined_unheld}
+use Rattle.occurrences.specs.declared.Index.{Index}
+use Rattle.tally.specs.declared.Tally.{Tally}
+use Rattle.notes.specs.declared.Notes.{Notes}
 
-module _ {ix st wk : List ℕ} {low high : ℕ} (d : Tieable ix st wk low high) where
+module _ {ix : Index} {st : Tally} {wk : Notes} {low high : ℕ} (d : Tieable ix st wk low high) where
   s : Sound ix st wk
   s = d.sound
 
@@ -75,7 +78,7 @@ module _ {ix st wk : List ℕ} {low high : ℕ} (d : Tieable ix st wk low high) 
   pub low_root : AtRoot ix st (low / 2)
   low_root = sound_root s (omega (arith, d.tying.opened)) (omega (arith, d.tying.order, d.tying.below)) d.tying.low_root
 
-  module _ (y : ℕ) (is : y ≡ code_of (opposite (literal_at low))) where
+  module _ {y : ℕ} (is : y ≡ code_of (opposite (literal_at low))) where
     literal_y : literal_at y ≡ t
     unfolding t
     literal_y = at_code y (opposite (literal_at low)) is
@@ -83,7 +86,7 @@ module _ {ix st wk : List ℕ} {low high : ℕ} (d : Tieable ix st wk low high) 
     half : y / 2 ≡ low / 2
     half = sym (var_at y) ∙ ap var literal_y ∙ var_t
 
-    pub tying_turnable : Turnable (tally_of st) high y
+    pub tying_turnable : Turnable st high y
     tying_turnable = record {
       classes = s.classes;
       long = s.exact.long_values;
@@ -95,7 +98,7 @@ module _ {ix st wk : List ℕ} {low high : ℕ} (d : Tieable ix st wk low high) 
       root_t = rw half d.tying.low_root;
     }
 
-    module _ (st₁ : List ℕ) (j : Joined (tally_of st) high y (tally_of st₁)) where
+    module _ {st₁ : Tally} (j : Joined st high y st₁) where
       step : state_in st₁ ≡ assign x t (state_in st)
       unfolding x
       step = j.state ∙ rw literal_y
@@ -107,7 +110,7 @@ module _ {ix st wk : List ℕ} {low high : ℕ} (d : Tieable ix st wk low high) 
       same_trues : (c : Clause) → trues_of (state_in st₁) c ≡ trues_of (state_in st) c
       same_trues c = rw step (trues_standing (assign x t (state_in st)) c ∙ trues_tied (state_in st) x t opened_x opened_t c ∙ sym (trues_standing (state_in st) c))
 
-      exact : Exact ix (tally_of st₁).values (tally_of st₁).counts
+      exact : Exact ix st₁.values st₁.counts
       exact = record {
         long_values = j.long;
         long_counts = ap length j.counts ∙ s.exact.long_counts;
@@ -118,18 +121,15 @@ module _ {ix st wk : List ℕ} {low high : ℕ} (d : Tieable ix st wk low high) 
       same_count : (g : ℕ) → count_in st₁ g ≡ count_in st g
       same_count g = ap (λ (l : List ℕ). get_or l g 0) j.counts
 
-      module _ {wk₀ : List ℕ} {n : ℕ} (k : Gathering ix st wk (high / 2) wk₀ n) {wk₁ : List ℕ} {m : ℕ} (b : Kept (WideWith ix st (low / 2)) wk₀ n wk₁ m) where
+      module _ {wk₀ : Notes} {n : ℕ} (k : Gathering ix st wk (high / 2) wk₀ n) {wk₁ : Notes} {m : ℕ} (b : Kept (WideWith ix st (low / 2)) wk₀ n wk₁ m) where
         beside : Beside wk wk₁
         beside = beside_trans k.beside b.beside
 
-        pub tying_room : (notes_of wk₁).blocks_end < max_blocks
-        tying_room = omega (arith, beside.blocks_end, s.blocks_room, j.fewer)
-
-        module _ {wk₂ : List ℕ} (p : ListedBy wk₁ n (block_between st (high / 2) (low / 2)) wk₂) where
-          same_todo_end : (notes_of wk₂).todo_end ≡ (notes_of wk).todo_end
+        module _ {wk₂ : Notes} (p : ListedBy wk₁ n (block_between st (high / 2) (low / 2)) wk₂) where
+          same_todo_end : wk₂.todo_end ≡ wk.todo_end
           same_todo_end = p.todo_end ∙ beside.todo_end
 
-          same_todo : (notes_of wk₂).todo ≡ (notes_of wk).todo
+          same_todo : wk₂.todo ≡ wk.todo
           same_todo = p.todo ∙ beside.todo
 
           sound : Sound ix st₁ wk₂
@@ -138,7 +138,6 @@ module _ {ix st wk : List ℕ} {low high : ℕ} (d : Tieable ix st wk low high) 
             exact = exact;
             linked = j.linked;
             classes = j.classes;
-            whole = p.whole;
             todo_room = omega (arith, same_todo_end, j.loads (width ix) variables, s.todo_room);
             blocks_room = omega (arith, p.one, beside.blocks_end, j.fewer, s.blocks_room);
             todo_inside = λ i h. rw same_todo (s.todo_inside i (omega (arith, same_todo_end)));
@@ -170,7 +169,7 @@ module _ {ix st wk : List ℕ} {low high : ℕ} (d : Tieable ix st wk low high) 
           pub block_spans : SpansIn st₁ block
           block_spans = inr (rw half at (joined_sides tying_turnable j))
 
-          block_same : (i : ℕ) → i < (notes_of wk).blocks_end → block_at (notes_of wk₂) i ≡ block_at (notes_of wk) i
+          block_same : (i : ℕ) → i < wk.blocks_end → block_at wk₂ i ≡ block_at wk i
           block_same i h = p.kept i (omega (arith, beside.blocks_end)) ∙ rw beside.blocks
 
           carried : Carried st wk st₁ wk₂
@@ -185,8 +184,8 @@ module _ {ix st wk : List ℕ} {low high : ℕ} (d : Tieable ix st wk low high) 
           blocks = record {
             at = λ i h. ⊎_elim
                 (λ b.
-                let l : i < (notes_of wk).blocks_end = omega (arith, beside.blocks_end) in
-                subst (SpansIn st₁) (sym (block_same i l)) (spans_carried carried (block_at (notes_of wk) i) (d.blocks.at i l)))
+                let l : i < wk.blocks_end = omega (arith, beside.blocks_end) in
+                subst (SpansIn st₁) (sym (block_same i l)) (spans_carried carried (block_at wk i) (d.blocks.at i l)))
                 (λ e. subst (SpansIn st₁) (sym e) block_spans)
                 (p.only i h);
           }
@@ -205,7 +204,7 @@ module _ {ix st wk : List ℕ} {low high : ℕ} (d : Tieable ix st wk low high) 
 
           -- a clause in which the lower root stands twice now held both, and was kept
           twice_kept : (g : ℕ) → g < clause_count ix → Memᴰ (clause_of ix g) (formula_of ix) → Wide (standing (state_in st₁) (clause_of ix g)) →
-              2 ≤ mentions (low / 2) (standing (state_in st₁) (clause_of ix g)) → Gathered (notes_of wk₂) 0 m g
+              2 ≤ mentions (low / 2) (standing (state_in st₁) (clause_of ix g)) → Gathered wk₂ 0 m g
           unfolding x
           twice_kept g h m w e =
               let w₁ : Wide (standing (assign x t (state_in st)) (clause_of ix g)) = rw step at w in
@@ -217,7 +216,7 @@ module _ {ix st wk : List ℕ} {low high : ℕ} (d : Tieable ix st wk low high) 
               let i = b.all g (h, z, omega arith) (k.all g h z (omega arith)) in
               (i.0, i.1, i.2, ap (λ (l : List ℕ). get_or l i.0 0) p.gathered ∙ i.3)
 
-          module _ (st' wk' : List ℕ) where
+          module _ {st' : Tally} {wk' : Notes} where
             tied : UndoubledAll ix st₁ wk₂ m (low / 2) st' wk' false → Tied ix st wk st' wk'
             unfolding x t
             tied u = record {
@@ -254,5 +253,5 @@ module _ {ix st wk : List ℕ} {low high : ℕ} (d : Tieable ix st wk low high) 
 
             pub tying_done : (b : Bool) → UndoubledAll ix st₁ wk₂ m (low / 2) st' wk' b → TieOf ix st wk st' wk' b
             unfolding x t
-            tying_done true u = (died_after (one_more x t d.tying.asked none_left) (rw step at u.fell.0), u.fell.1)
+            tying_done true u = died_after (one_more x t d.tying.asked none_left) (rw step at u.fell)
             tying_done false u = tied u

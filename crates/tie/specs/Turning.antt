@@ -3,9 +3,9 @@ use Rattle.std.specs.Prelude.{◌≡◌, List, ℕ, ◌+◌, ◌*◌, ◌/◌, �
 use Rattle.literal.specs.Literal.{literal_at, max_variables, codes, variables}
 use Rattle.theory.specs.State.{assign}
 use Rattle.state.specs.State.{state_of}
-use Rattle.tally.specs.Tally.{Tally}
 use Rattle.tally.specs.Ring.{Classes}
 use Rattle.tally.specs.Counts.{load, roots}
+use Rattle.tally.specs.declared.Tally.{Tally}
 
 -- x and t are codes of literals of two open roots, and t's is the lower
 pub record Turnable (tally : Tally) (x t : ℕ) : Type 0 where

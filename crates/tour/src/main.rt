@@ -17,10 +17,12 @@ fn told(name: &[u8], receipt: Receipt) {
 // Check: whole, and in two parts, the second of which goes on where the first ended.
 fn check_it(table: &[i16]) {
     let whole = table::check_table(table, N);
-    told(b"check ", whole.receipt());
+    told(b"check ", receipt::checked_receipt(whole));
     let parts = Pass::begin(N).after(&[1i16, 2, 3]).after(&[0i16, 3, 4, 0]);
-    let verdict = parts.verdict();
-    told(b"check in parts ", verdict.receipt());
+    told(
+        b"check in parts ",
+        receipt::checked_receipt(parts.verdict()),
+    );
 }
 
 fn search_it(table: &[i16]) {
@@ -28,10 +30,10 @@ fn search_it(table: &[i16]) {
     let mut trail = [0i16; N];
     let answer = search::search(table, N, 1000000, &mut plan, &mut trail);
     show::text(b"plan");
-    show::bytes(&plan);
+    show::numbers(&plan);
     show::text(b" trail");
     show::entries(&trail);
-    told(b" search ", answer.receipt());
+    told(b" search ", receipt::searching_receipt(answer));
 }
 
 // Two rows of the three; `more` says that there is one more.
@@ -39,11 +41,11 @@ fn list_it(table: &[i16]) {
     let mut rows = [0u8; 2 * N];
     let answer = list::list(table, N, 2, 1000000, &mut rows);
     show::text(b"rows");
-    show::bytes(&rows);
-    if answer.more() {
+    show::numbers(&rows);
+    if receipt::says_more(answer) {
         show::text(b" and more");
     }
-    told(b" list ", answer.receipt());
+    told(b" list ", receipt::listing_receipt(answer));
 }
 
 fn settle_it(table: &[i16]) {
@@ -54,7 +56,7 @@ fn settle_it(table: &[i16]) {
     show::entries(&list);
     show::text(b" reasons");
     show::numbers(&reasons);
-    told(b" settle ", answer.receipt());
+    told(b" settle ", receipt::settling_receipt(answer));
 }
 
 // Index of an array by value.
@@ -65,11 +67,10 @@ fn index_it(table: &[i16]) {
     }; Literal::MAX_CLAUSES];
     let filled = index::index_array(table, N, heads, Literal::MAX_CLAUSES);
     let second = filled.heads[1];
-    let answer = filled.answer;
     show::text(b"second group");
     show::number(second.start as u64);
     show::number(second.entries as u64);
-    told(b" index ", answer.receipt());
+    told(b" index ", receipt::indexing_receipt(filled.answer));
 }
 
 // A group is looked at before it is added, and taken back after.
@@ -78,25 +79,25 @@ fn edit_it(buffer: &mut [i16], used: usize) {
     let mut reasons = [0u16; N];
     let group = [-1i16, 4];
     let previewed = preview::preview(buffer, used, N, &group, &mut list, &mut reasons);
-    told(b"preview ", previewed.receipt());
+    told(b"preview ", receipt::settling_receipt(previewed));
     let added = add::add(buffer, used, N, &group);
-    let longer = added.used();
-    told(b"add ", added.receipt());
+    let longer = receipt::used_length(added);
+    told(b"add ", receipt::adding_receipt(added));
     let taken = take_back::take_back(buffer, longer, N);
-    told(b"take back ", taken.receipt());
+    told(b"take back ", receipt::taking_back_receipt(taken));
 }
 
 fn save_and_read(table: &[i16]) {
     let mut strip = [0u8; save::MAX_SAVED];
     let saved = save::save(table, N, &mut strip);
-    told(b"save ", saved.receipt());
+    told(b"save ", receipt::saving_receipt(saved));
     let mut back = [0i16; Literal::MAX_TABLE];
     let read = strip::read(&[0x50u8, 0, 1, 0x47, 0x54, 0, 1, 0x45, 0x5A], &mut back);
     show::text(b"placements");
-    show::number(read.variables() as u64);
+    show::number(receipt::read_variables(read) as u64);
     show::text(b" used");
-    show::number(read.used() as u64);
-    told(b" read ", read.receipt());
+    show::number(receipt::read_length(read) as u64);
+    told(b" read ", receipt::reading_receipt(read));
 }
 
 fn main() {

@@ -7,11 +7,10 @@ use borrow.Author.Tests.{lt-ltb, le-ltb}
 use lib.IntN.{ℤ}
 use lib.ListN.{length, drop, length-append}
 use Rattle.general.specs.Appending.{Appended, appended_length}
-use Rattle.receipt.specs.declared.Checked.{Checked}
-use Rattle.receipt.specs.declared.Checked.TheVariants as checked
+use Rattle.std.specs.Prelude.{Result, Ok, Err}
+use Rattle.receipt.specs.Receipt.{Checked, pass}
+use Rattle.receipt.specs.declared.Refusal.{Refusal}
 use Rattle.receipt.specs.declared.Fault.TheVariants.{StripShort}
-use Rattle.receipt.specs.declared.Saving.{Saving}
-use Rattle.receipt.specs.declared.Saving.TheVariants.{Saved, Refused}
 use Rattle.theory.specs.Encoding.{saved_strip, max_saved}
 use Rattle.theory.specs.Refusing.{at_most, first_refusal, unless}
 use Rattle.theory.specs.Calls.{SaveCall, save_refused, saved_call, save_check, save_call}
@@ -20,7 +19,8 @@ use Rattle.save.specs.Save.{called as save_called}
 use Rattle.save.proofs.Calling.{save_passed}
 use Rattle.scan.specs.Scan.{filing_of}
 use Rattle.text.specs.Text.{refused_text}
-use Rattle.typed.specs.declared.Typed.TheVariants.{Strip, Message}
+use Rattle.std.specs.Prelude.{Ok, Err}
+use Rattle.typed.specs.declared.Message.{Message}
 use Rattle.typed.specs.Typed.{max_text, Output, message, too_long_text, table_output, filing_output, output_of, called, output_call}
 
 module _ (s : List ℕ) where
@@ -33,15 +33,15 @@ module _ (s : List ℕ) where
   short h = rw (le-ltb max_text (length s) h)
 
 -- bytes appended at the front
-pub message_written : {l l' new : List ℕ} {k : ℕ} {o : Output} → Appended l 0 new l' k → message new ≡ o → (called (Message k) l' ≡ output_call o l) × (k ≤ length l')
-message_written {l} {l'} {new} {k} a e =
-    let q : k ≡ length new = omega (arith, a.ends) in
+pub message_written : {l l' new : List ℕ} {o : Output} (m : Message) → Appended l 0 new l' m.length → message new ≡ o → (called (Err m) l' ≡ output_call o l) × (m.length ≤ length l')
+message_written {l} {l'} {new} m a e =
+    let q : m.length ≡ length new = omega (arith, a.ends) in
     (rw (← e, a.whole, q), omega (arith, a.room, appended_length a))
 
 -- what the answer of Save says of the output
-abbrev pub Writes : List ℕ → Output → Saving → List ℕ → Type 0
-Writes l o (Saved k) l' = (called (Strip k) l' ≡ output_call o l) × (k ≤ length l')
-Writes l o (Refused f) l' = (message (refused_text f) ≡ o) × (l' ≡ l)
+abbrev pub Writes : List ℕ → Output → Result ℕ Refusal → List ℕ → Type 0
+Writes l o (Ok k) l' = (called (Ok k) l' ≡ output_call o l) × (k ≤ length l')
+Writes l o (Err f) l' = (message (refused_text f) ≡ o) × (l' ≡ l)
 
 -- a call with bytes for the longest strip
 module _ (n : ℕ) (t : List ℤ) (l : List ℕ) (long : max_saved ≤ length l) where
@@ -54,11 +54,11 @@ module _ (n : ℕ) (t : List ℤ) (l : List ℕ) (long : max_saved ≤ length l)
   save_writes = go (save_check n t) refl
     where
       go : (c : Checked) → save_check n t ≡ c → Writes l (table_output c n t) (saved_by c).answer (saved_by c).strip
-      go (checked.Refused f) e = (refl, refl)
-      go checked.Passed e =
+      go (Err f) e = (refl, refl)
+      go (Ok u) e =
           let b = saved_strip n t in
           let h : length b ≤ length l = omega (arith, saved_most n t (save_passed n t e).0) in
           rw (le-ltb (length l) (length b) h) (refl, omega (arith, length-append b (drop (length b) l)))
 
-  pub writes : {r : Saving} {l' : List ℕ} {o : Output} → save_called r l' ≡ save_call n t l → table_output (save_check n t) n t ≡ o → Writes l o r l'
+  pub writes : {r : Result ℕ Refusal} {l' : List ℕ} {o : Output} → save_called r l' ≡ save_call n t l → table_output (save_check n t) n t ≡ o → Writes l o r l'
   writes is e = rw (← is, e) at save_writes

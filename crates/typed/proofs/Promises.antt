@@ -1,4 +1,5 @@
 -- What a call of `strip_of` promises: `called r out ≡ output_call (output_of s) old` is what it ensures of its answer r to the text s, and of the bytes before and after it.
+use Rattle.receipt.specs.Answers.{reading}
 use mathlib.Core.Path.{◌≡◌, refl, ap, sym, ◌∙◌}
 use mathlib.Core.Logic.{◌↔◌}
 use mathlib.Core.Bool.{Bool, true, false, cond}
@@ -12,9 +13,8 @@ use lib.IntN.{ℤ}
 use lib.ListN.{length, take, drop, length-take}
 use lib.Seq.{take_all, take-append_seam, drop-append_seam}
 use Rattle.general.specs.Times.{times}
-use Rattle.receipt.specs.declared.Checked.{Checked}
-use Rattle.receipt.specs.declared.Checked.TheVariants.{Passed, Refused}
-use Rattle.receipt.specs.declared.Reading.TheVariants.{Read}
+use Rattle.std.specs.Prelude.{Ok, Err}
+use Rattle.receipt.specs.Receipt.{Checked}
 use Rattle.theory.specs.Calls.{save_check}
 use Rattle.theory.specs.Strip.{read_strip}
 use Rattle.theory.specs.Encoding.{saved_strip}
@@ -22,8 +22,7 @@ use Rattle.save.proofs.Calling.{save_passed}
 use Rattle.save.proofs.RoundTrip.{saved_reads}
 use Rattle.scan.specs.Scan.{Filing, filing, wrong, filing_of}
 use Rattle.text.specs.Text.{codes, refused_text}
-use Rattle.typed.specs.declared.Typed.{Typed}
-use Rattle.typed.specs.Typed.{max_text, Output, strip, message, too_long_text, wrong_text, table_output, filing_output, output_of, TypedCall, called, output_call, length_of, written, Filed, OneLine}
+use Rattle.typed.specs.Typed.{Typed, max_text, Output, strip, message, too_long_text, wrong_text, table_output, filing_output, output_of, TypedCall, called, output_call, length_of, written, Filed, OneLine}
 use Rattle.typed.proofs.Outputs.{too_long}
 use Rattle.typed.proofs.Messages.{one_line, refused_line}
 
@@ -44,8 +43,8 @@ says s = go (ltb max_text (length s)) refl (filing_of s) refl
     no b e n t f = let q = e ∙ filed_output f in let z : ◌≡◌ {A = ℕ} 0 1 = cc in omega arith
 
     table : ltb max_text (length s) ≡ false → (n : ℕ) (t : List ℤ) → filing_of s ≡ filing n t → (c : Checked) → save_check n t ≡ c → Says s (table_output c n t)
-    table h n t q Passed e = (n, t, record { short = ltb-false max_text (length s) h; is = q; accepted = e }, refl)
-    table h n t q (Refused f) e = (refused_line f, no (refused_text f) (rw (h, q, e)))
+    table h n t q (Ok u) e = (n, t, record { short = ltb-false max_text (length s) h; is = q; accepted = e }, refl)
+    table h n t q (Err f) e = (refused_line f, no (refused_text f) (rw (h, q, e)))
 
     go : (b : Bool) → ltb max_text (length s) ≡ b → (f : Filing) → filing_of s ≡ f → Says s (cond b (message too_long_text) (filing_output f))
     go true h f q = (one_line (codes "text too long at byte") (max_text ∷ []) refl, no too_long_text (rw h))
@@ -74,7 +73,7 @@ module _ (s : List ℕ) (r : Typed) (old out : List ℕ) (call : called r out �
 
   -- reading it brings back what was typed
   pub typed_reads : (b : List ℕ) → written r out ≡ strip b →
-      (n : ℕ) × (t : List ℤ) × (filing_of s ≡ filing n t) × ((room : ℕ) → length t ≤ room → read_strip b room ≡ record { reading = Read n (length t); table = t })
+      (n : ℕ) × (t : List ℤ) × (filing_of s ≡ filing n t) × ((room : ℕ) → length t ≤ room → read_strip b room ≡ record { reading = reading n (length t); table = t })
   typed_reads b e =
       let w = (typed_strip b).0 e in
       (w.0, w.1, w.2.is, λ room h. ap (λ (x : List ℕ). read_strip x room) w.3 ∙ let p = save_passed w.0 w.1 w.2.accepted in saved_reads w.0 w.1 p.0 p.1 room h)

@@ -1,18 +1,15 @@
 // What strip_of writes for texts of each kind, a line for each: `strip` and its bytes as numbers, or the message.
 #![tactic(auto)]
 
-use typed::Typed;
-
 fn write(text: &[u8]) {
     let mut out = [0u8; typed::OUTPUT];
-    let answer = typed::strip_of(text, &mut out);
-    let bytes = answer.bytes(&out);
-    if let Typed::Strip(_) = answer {
-        show::text(b"strip");
-        show::bytes(bytes);
-        show::text(b"\n");
-    } else {
-        show::text(bytes);
+    match typed::strip_of(text, &mut out) {
+        Ok(length) => {
+            show::text(b"strip");
+            show::numbers(&out[..length]);
+            show::text(b"\n");
+        }
+        Err(message) => show::text(&out[..message.length]),
     }
 }
 

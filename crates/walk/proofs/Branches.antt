@@ -2,7 +2,7 @@
 use mathlib.Core.Path.{◌≡◌, ap, sym, ◌∙◌}
 use mathlib.Core.Bool.{Bool, true, false}
 use mathlib.Core.List.{List}
-use mathlib.Core.Option.{none, some}
+use Rattle.std.specs.Prelude.{None, Some}
 use Prim.Native.Nat.{ℕ, ◌+◌, ◌*◌, ◌≤◌, ◌<◌}
 use native.Mathlib.Decide.{ℕ_discrete}
 use native.Mathlib.Omega.{arith}
@@ -21,8 +21,10 @@ use Rattle.gather.specs.Gathering.{AtRoot, StandsLive}
 use Rattle.side.proofs.Calm.{calm_closed, wider}
 use Rattle.side.proofs.Splitting.{open_code}
 use Rattle.walk.specs.Branch.{Branching, BranchesOn, Branchable}
+use Rattle.occurrences.specs.declared.Index.{Index}
+use Rattle.tally.specs.declared.Tally.{Tally}
 
-module _ {ix st : List ℕ} {p : ℕ} (b : Branching ix st p) where
+module _ {ix : Index} {st : Tally} {p : ℕ} (b : Branching ix st p) where
   -- one that stands for another stands nowhere
   pub not_root : ¬ (value_in st p ≡ 2 * p) → ¬ InWide (formula_of ix) (state_in st) p
   not_root n w =
@@ -46,15 +48,15 @@ module _ {ix st : List ℕ} {p : ℕ} (b : Branching ix st p) where
       record { index = t.index; exact = t.exact; linked = t.linked; classes = t.classes; opened = b.positive; inside = b.inside; root = e }
 
 -- no variable from `from` on and under p stands in a wide clause
-pub record Passed (ix st : List ℕ) (from n p : ℕ) : Type 0 where
+pub record Passed (ix : Index) (st : Tally) (from n p : ℕ) : Type 0 where
   pub able : Branchable ix st from n
   pub begins : from ≤ p
   pub none : (r : ℕ) → from ≤ r → r < p → ¬ InWide (formula_of ix) (state_in st) r
 
-pub passed_begins : {ix st : List ℕ} {from n : ℕ} → Branchable ix st from n → Passed ix st from n from
+pub passed_begins : {ix : Index} {st : Tally} {from n : ℕ} → Branchable ix st from n → Passed ix st from n from
 passed_begins k = record { able = k; begins = omega arith; none = λ r a c. absurd (omega arith) }
 
-module _ {ix st : List ℕ} {from n p : ℕ} (w : Passed ix st from n p) where
+module _ {ix : Index} {st : Tally} {from n p : ℕ} (w : Passed ix st from n p) where
   pub passed_branching : p ≤ n → Branching ix st p
   passed_branching h = record {
     calm = w.able.calm;
@@ -63,10 +65,10 @@ module _ {ix st : List ℕ} {from n p : ℕ} (w : Passed ix st from n p) where
     inside = omega (arith, w.able.small);
   }
 
-  pub passed_found : InWide (formula_of ix) (state_in st) p → some p ≡ branch_variable (formula_of ix) (state_in st)
+  pub passed_found : InWide (formula_of ix) (state_in st) p → Some p ≡ branch_variable (formula_of ix) (state_in st)
   passed_found i = sym (branch_from w.able.guard (calm_closed w.able.calm) p (omega (arith, w.able.positive, w.begins)) i w.none)
 
-  pub passed_all : n < p → none ≡ branch_variable (formula_of ix) (state_in st)
+  pub passed_all : n < p → None ≡ branch_variable (formula_of ix) (state_in st)
   passed_all h = sym (branch_none w.able.guard (calm_closed w.able.calm) w.able.within w.able.well (λ r i j. w.none r i (omega arith)))
 
   pub passed_more : ¬ InWide (formula_of ix) (state_in st) p → Passed ix st from n (p + 1)

@@ -9,7 +9,8 @@ use Rattle.literal.specs.declared.Literal.{Literal}
 use Rattle.receipt.specs.contracts.Outcome.{enum}
 use Rattle.receipt.specs.declared.Outcome.{Outcome}
 use Rattle.receipt.specs.declared.Outcome.TheVariants.{LaidOut, NoLayout, Stopped}
-use Rattle.memo.specs.declared.Held.{Held}
+use Rattle.memo.specs.declared.Memory.{Memory}
+use Rattle.std.specs.Prelude.{Option}
 use Rattle.walk.specs.Walk.{noted}
 use Rattle.walk.specs.Learning.{LearnOf}
 
@@ -26,7 +27,7 @@ noted_other NoLayout d x t h = refl
 noted_other Stopped d x t h = refl
 
 -- nothing is learned
-pub learnt_other : (n c : ℕ) (m : List ℕ) (held : Held) (o : Outcome) → ¬ (o ≡ NoLayout) → LearnOf n c m m held o
+pub learnt_other : (n c : ℕ) (m : Memory) (held : Option ℕ) (o : Outcome) → ¬ (o ≡ NoLayout) → LearnOf n c m m held o
 learnt_other n c m held LaidOut h = refl
 learnt_other n c m held NoLayout h = absurd (h refl)
 learnt_other n c m held Stopped h = refl

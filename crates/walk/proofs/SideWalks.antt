@@ -15,8 +15,11 @@ use Rattle.walk.specs.declared.Walk.{Walk}
 use Rattle.walk.specs.Walk.{Splittable, walked, tree_walk, walk_from, split_walk, under}
 use Rattle.walk.proofs.Sides.{side_walk, side_room}
 use Rattle.walk.proofs.Walking.{walk_count, side_of, second_side}
+use Rattle.occurrences.specs.declared.Index.{Index}
+use Rattle.tally.specs.declared.Tally.{Tally}
+use Rattle.notes.specs.declared.Notes.{Notes}
 
-module _ {ix st wk : List ℕ} {p : ℕ} {l : Level} {plan : List ℕ} {trail : List ℤ} (k : Splittable ix st wk p l plan trail) where
+module _ {ix : Index} {st : Tally} {p : ℕ} {l : Level} {plan : List ℕ} {trail : List ℤ} (k : Splittable ix st p l plan trail) where
   -- the codes of the two literals that become false
   pub first_is : (x : Literal) (c : ℕ) → x ≡ Pos p → c ≡ code_of x → assign (literal_at c) FALSE (state_in st) ≡ assign (Pos p) FALSE (state_in st)
   first_is x c made code = out_assigns p c (code ∙ ap code_of made) (state_in st)
@@ -26,7 +29,7 @@ module _ {ix st wk : List ℕ} {p : ℕ} {l : Level} {plan : List ℕ} {trail : 
 
   -- a side, which makes p the value t
   pub side_walked : (t : Literal) → var t ≡ 0 → (c : ℕ) → assign (literal_at c) FALSE (state_in st) ≡ assign (Pos p) t (state_in st) →
-      (st' wk' : List ℕ) (r : Bool) → Begun ix st c st' wk' r → (left : ℕ) (lower : Level) → lower ≡ under p left l →
+      (st' : Tally) (wk' : Notes) (r : Bool) → Begun ix st c st' wk' r → (left : ℕ) (lower : Level) → lower ≡ under p left l →
       (q q' : List ℕ) (v v' : List ℤ) (w : Walk) → walked w q' v' ≡ walk_from r lower ix st' q v →
       walked w q' v' ≡ tree_walk (under p left l) (formula_of ix) (assign (Pos p) t (state_in st)) q v
   side_walked t constant c is st' wk' r b left lower e q q' v v' w h = rw e at h ∙ side_walk k c t constant is st' wk' r b left q v

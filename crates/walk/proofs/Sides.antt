@@ -2,7 +2,7 @@
 use mathlib.Core.Path.{◌≡◌, refl, ◌∙◌}
 use mathlib.Core.Bool.{Bool, true, false}
 use mathlib.Core.List.{List}
-use mathlib.Core.Option.{some}
+use Rattle.std.specs.Prelude.{Some}
 use Prim.Native.Nat.{ℕ, suc, ◌+◌, ◌≤◌, ◌<◌}
 use native.Mathlib.Omega.{arith}
 use lib.IntN.{ℤ}
@@ -33,10 +33,13 @@ use Rattle.side.proofs.Splitting.{side_dead}
 use Rattle.walk.specs.Branch.{Branchable}
 use Rattle.walk.specs.Walk.{Lasting, Beginning, Begins, Walkable, Splittable, Passable, under, tree_walk, walk_from}
 use Rattle.walk.proofs.Walking.{dead_walk}
+use Rattle.occurrences.specs.declared.Index.{Index}
+use Rattle.tally.specs.declared.Tally.{Tally}
+use Rattle.notes.specs.declared.Notes.{Notes}
 
 -- propagation -------------------------------------------------------------------------------------------------------
 
-module _ {ix st wk : List ℕ} {l : Level} {plan : List ℕ} {trail : List ℤ} (k : Lasting ix l plan trail) (b : Beginning ix st wk l) where
+module _ {ix : Index} {st : Tally} {wk : Notes} {l : Level} {plan : List ℕ} {trail : List ℤ} (k : Lasting ix l plan trail) (b : Beginning ix st wk l) where
   abbrev n : ℕ
   n = l.variables
 
@@ -47,7 +50,7 @@ module _ {ix st wk : List ℕ} {l : Level} {plan : List ℕ} {trail : List ℤ} 
   pub died_walk : Died f (state_in st) → walk_from true l ix st plan trail ≡ tree_walk l f (state_in st) plan trail
   died_walk d = dead_walk n l.depth l.left plan trail _ (at_dead_end k.within (branch_picking k.within) 1 (state_in st) b.well (died_settles k.within b.well d))
 
-  module _ {st' wk' : List ℕ} (r : Rested ix st st' wk') where
+  module _ {st' : Tally} {wk' : Notes} (r : Rested ix st st' wk') where
     pub rested_well : WellFormed n (state_in st')
     rested_well = steps_well k.within r.steps.1 b.well
 
@@ -64,12 +67,12 @@ module _ {ix st wk : List ℕ} {l : Level} {plan : List ℕ} {trail : List ℤ} 
       positive = b.positive;
     }
 
-    pub rested_splittable : (p : ℕ) → branch_variable f (state_in st') ≡ some p → Splittable ix st' wk' p l plan trail
-    rested_splittable p e = record { lasting = k; calm = rested_calm r; whole = r.sound.whole; well = rested_well; branch = e; deep = omega (arith, b.deep, rested_fewer) }
+    pub rested_splittable : (p : ℕ) → branch_variable f (state_in st') ≡ Some p → Splittable ix st' p l plan trail
+    rested_splittable p e = record { lasting = k; calm = rested_calm r; well = rested_well; branch = e; deep = omega (arith, b.deep, rested_fewer) }
 
 -- the sides of a split -----------------------------------------------------------------------------------------------
 
-module _ {ix st wk : List ℕ} {p : ℕ} {l : Level} {plan : List ℕ} {trail : List ℤ} (k : Splittable ix st wk p l plan trail) where
+module _ {ix : Index} {st : Tally} {p : ℕ} {l : Level} {plan : List ℕ} {trail : List ℤ} (k : Splittable ix st p l plan trail) where
   pub branch_open : Open l.variables (state_in st) p
   branch_open =
       let b : Least ◌≤◌ (InLive (formula_of ix) (state_in st)) p = rw k.branch at (branch_least (formula_of ix) (state_in st) (calm_closed k.calm)) in
@@ -90,7 +93,7 @@ module _ {ix st wk : List ℕ} {p : ℕ} {l : Level} {plan : List ℕ} {trail : 
     side_well : WellFormed l.variables side_state
     side_well = (side k.well branch_open t constant).well
 
-    module _ (st' wk' : List ℕ) where
+    module _ (st' : Tally) (wk' : Notes) where
       -- a side has fewer open variables, and may be walked
       pub side_walkable : (r : Bool) → Begun ix st x st' wk' r → (left : ℕ) (plan' : List ℕ) (trail' : List ℤ) → length plan' ≡ length plan → length trail' ≡ length trail →
           Walkable ix st' wk' r (under p left l) plan' trail'
@@ -105,7 +108,7 @@ module _ {ix st wk : List ℕ} {p : ℕ} {l : Level} {plan : List ℕ} {trail : 
           }
 
           go : (r : Bool) → Begun ix st x st' wk' r → Begins ix st' wk' (under p left l) r
-          go true b = b.1
+          go true b = tt
           go false b =
               let e : state_in st' ≡ side_state = b.0 ∙ is in
               let g : Guard (formula_of ix) side_state (p + 1) = let q : suc p ≡ p + 1 = omega arith in rw q at (guard_split (state_in st) (calm_closed k.calm) k.branch t constant) in

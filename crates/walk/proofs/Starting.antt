@@ -20,8 +20,11 @@ use Rattle.tally.specs.Tally.{state_in}
 use Rattle.start.specs.Starting.{StartOf}
 use Rattle.walk.specs.Walk.{Walkable, Begins, Searchable, walk_from, walk_of, table_walk}
 use Rattle.walk.proofs.Walking.{dead_walk}
+use Rattle.occurrences.specs.declared.Index.{Index}
+use Rattle.tally.specs.declared.Tally.{Tally}
+use Rattle.notes.specs.declared.Notes.{Notes}
 
-module _ {n : ℕ} {t : List ℤ} {plan : List ℕ} {trail : List ℤ} (k : Searchable n t plan trail) (ix st wk : List ℕ) (is : formula_of ix ≡ clauses t) (left : ℕ) where
+module _ {n : ℕ} {t : List ℤ} {plan : List ℕ} {trail : List ℤ} (k : Searchable n t plan trail) (ix : Index) (st : Tally) (wk : Notes) (is : formula_of ix ≡ clauses t) (left : ℕ) where
   within : Within n (formula_of ix)
   within = rw is (accepted_within n t k.accepted)
 
@@ -32,7 +35,7 @@ module _ {n : ℕ} {t : List ℤ} {plan : List ℕ} {trail : List ℤ} (k : Sear
   }
     where
       go : (r : Bool) → StartOf ix st wk r → Begins ix st wk (record { variables = n; from = 1; left = left; depth = 0 }) r
-      go true s = s.1
+      go true s = tt
       go false s = record {
         ready = s.ready;
         well = steps_well within s.steps.1 (initial_well n);
@@ -42,7 +45,7 @@ module _ {n : ℕ} {t : List ℤ} {plan : List ℕ} {trail : List ℤ} (k : Sear
       }
 
   pub start_walk : (r : Bool) → StartOf ix st wk r → walk_from r (record { variables = n; from = 1; left = left; depth = 0 }) ix st plan trail ≡ table_walk n t left plan trail
-  start_walk true s = rw (← is) (dead_walk n 0 left plan trail _ (at_dead_end within (branch_picking within) 1 initial (initial_well n) (died_settles within (initial_well n) s.0)))
+  start_walk true s = rw (← is) (dead_walk n 0 left plan trail _ (at_dead_end within (branch_picking within) 1 initial (initial_well n) (died_settles within (initial_well n) s)))
   start_walk false s =
       rw (← is)
       (ap (λ r. walk_of n 0 (limited left r) plan trail)

@@ -1,7 +1,7 @@
 -- Each return of the walk against the definition: what the tree under an allowance makes of a state, and of a split from what its sides make.
 use mathlib.Core.Path.{◌≡◌, refl, ap, sym, ◌∙◌}
 use mathlib.Core.List.{List, [], ◌∷◌, ◌++◌, map}
-use mathlib.Core.Option.{some}
+use Rattle.std.specs.Prelude.{Some}
 use Prim.Native.Nat.{ℕ, suc, ◌+◌, ◌-◌, ◌<◌, ◌≤◌}
 use native.Mathlib.Decide.{dec_le}
 use native.Mathlib.Numerals.{add-one}
@@ -17,7 +17,7 @@ use Rattle.receipt.specs.declared.Outcome.TheVariants.{LaidOut, NoLayout}
 use Rattle.theory.specs.Formula.{Formula, Choice}
 use Rattle.theory.specs.Search.{split_on, decide}
 use Rattle.theory.specs.State.{State, assign}
-use Rattle.theory.specs.Tree.{Found, Run, run, visit, tree, Result, finish, stop, limited}
+use Rattle.theory.specs.Tree.{Found, Run, run, visit, tree, Limited, finish, stop, limited}
 use Rattle.theory.specs.Calls.{over}
 use Rattle.theory.proofs.Budget.{limited_enough, limited_short, count_min, limited_nothing, past, split_none, split_first, split_second}
 use Rattle.walk.specs.Walk.{Walked, walked, walk_of, counted, noted}
@@ -68,17 +68,17 @@ module _ (n : ℕ) (f : Formula) (v : State) (q d : ℕ) (p : List ℕ) (t : Lis
   taken = assign (Pos q) TRUE v
 
   abbrev whole : Run Choice
-  whole = visit walks 1 (split_on n v (some q))
+  whole = visit walks 1 (split_on n v (Some q))
 
   -- "stopped when a split is needed and the allowance is used up"
   pub none_left : left ≡ 0 → walk_of n d (stop 0) p t ≡ walk_of n d (limited left whole) p t
   none_left e = rw (e, split_none walks q out taken)
 
   module _ (some_left : ¬ (left ≡ 0)) (h : d < length t) (w : Walked) (ew : w ≡ walk_of n (d + 1) (limited (left - 1) (walks 1 out)) p t) where
-    whole_is : (x : Result Choice) → limited (1 + (left - 1)) whole ≡ x → walk_of n d x p t ≡ walk_of n d (limited left whole) p t
+    whole_is : (x : Limited Choice) → limited (1 + (left - 1)) whole ≡ x → walk_of n d x p t ≡ walk_of n d (limited left whole) p t
     whole_is x e =
         let more : 1 + (left - 1) ≡ left = omega arith in
-        ap (λ (r : Result Choice). walk_of n d r p t) (sym e ∙ ap (λ (b : ℕ). limited b whole) more)
+        ap (λ (r : Limited Choice). walk_of n d r p t) (sym e ∙ ap (λ (b : ℕ). limited b whole) more)
 
     outcome_is : w.walk.outcome ≡ (limited (left - 1) (walks 1 out)).outcome
     outcome_is = ap (λ (u : Walked). u.walk.outcome) ew
@@ -95,7 +95,7 @@ module _ (n : ℕ) (f : Formula) (v : State) (q d : ℕ) (p : List ℕ) (t : Lis
         side_of (1 + w.walk.count) d (Pos q) b ≡ walk_of n d (limited left whole) p t
     second_side none_found b eb =
         let o = sym outcome_is ∙ none_found in
-        let e = ew ∙ ap (λ (r : Result Choice). walk_of n (d + 1) r p t) (limited_nothing (left - 1) (walks 1 out) o).1 in
+        let e = ew ∙ ap (λ (r : Limited Choice). walk_of n (d + 1) r p t) (limited_nothing (left - 1) (walks 1 out) o).1 in
         let k : (limited (left - 1) (walks 1 out)).count ≡ w.walk.count = sym (ap (λ (u : Walked). u.walk.count) ew) in
         let rest : left - 1 - w.walk.count ≡ left - (1 + w.walk.count) = omega arith in
         ap (side_of (1 + w.walk.count) d (Pos q)) (rw (ap (λ (u : Walked). u.plan) e, ap (λ (u : Walked). u.trail) e) at eb) ∙

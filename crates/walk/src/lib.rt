@@ -1,14 +1,13 @@
 // The walk of the split tree of document 01 to the first layout of a checked table, with a memo of splits that have none.
 #![tactic(auto)]
 
-ghost use Rattle.std.specs.Prelude.{◌≡◌, ◌+◌, ◌≤◌};
+ghost use Rattle.std.specs.Prelude.{◌≡◌, ◌+◌, ◌≤◌, is_err};
 ghost use Rattle.std.specs.Int.{w32};
 ghost use Rattle.std.proofs.Common.{Fits};
 ghost use Rattle.literal.specs.Literal.{max_variables};
 ghost use Rattle.theory.specs.Search.{branch_variable};
 ghost use Rattle.occurrences.specs.Index.{formula_of};
 ghost use Rattle.tally.specs.Tally.{state_in};
-ghost use Rattle.notes.specs.Notes.{Whole};
 ghost use Rattle.memo.specs.Memory.{Empty, Remembering, Remembered, Keepable};
 ghost use Rattle.side.specs.Branch.{branch_of};
 ghost use Rattle.walk.specs.Branch.{Branching, BranchesOn, Branchable};
@@ -16,11 +15,11 @@ ghost use Rattle.walk.specs.Walk.{Walkable, Splittable, walked, walk_from, split
 ghost use Rattle.walk.specs.Learning.{LearnOf};
 
 use literal::{Literal, Variable};
-use memo::{Held, Memory};
+use memo::Memory;
+use moves::DeadEnd;
 use notes::Notes;
 use occurrences::Index;
 use receipt::Outcome;
-use side::Branch;
 use tally::Tally;
 
 // How a walk of the tree ends, and the splits that it makes.
@@ -28,6 +27,13 @@ use tally::Tally;
 pub struct Walk {
     pub outcome: Outcome,
     pub count: u32,
+}
+
+impl Walk {
+    const DEAD_END: Walk = Walk {
+        outcome: Outcome::NoLayout,
+        count: 0,
+    };
 }
 
 // Where a walk stands: of how many variables, from which one on the next branch variable is looked for, the splits left, and the splits above.
@@ -46,23 +52,23 @@ fn branches_on(index: &Index, state: &Tally, p: usize) -> bool
     requires { Branching index.now state.now p }
     ensures { BranchesOn index.now state.now p result }
 {
-    if tally::value_of(state, p) != 2 * (p as u16) {
+    if state.value_of(p) != 2 * (p as u16) {
         return false;
     }
     gather::stands_live(index, state, p as u16)
 }
 
 // The lowest open variable that stands in a live clause. None below `from` does.
-fn branch_variable(index: &Index, state: &Tally, from: usize, n: usize) -> Branch
+fn branch_variable(index: &Index, state: &Tally, from: usize, n: usize) -> Option<Variable>
     requires { Branchable index.now state.now from n }
     ensures { branch_of result ≡ branch_variable (formula_of index.now) (state_in state.now) }
 {
     for p in from..n + 1 {
         if branches_on(index, state, p) {
-            return Branch::On(Variable(p as u16));
+            return Some(Variable(p as u16));
         }
     }
-    Branch::Nowhere
+    None
 }
 
 // The walk ----------------------------------------------------------------------------------------------------------
@@ -88,41 +94,32 @@ fn settle_and_decide(
     state: &mut Tally,
     work: &mut Notes,
     memory: &mut Memory,
-    dead: bool,
+    begun: Result<(), DeadEnd>,
     level: Level,
     plan: &mut [u8],
     trail: &mut [i16],
 ) -> Walk
-    requires walkable { Walkable index.now state.old work.old dead level plan.old trail.old }
+    requires walkable { Walkable index.now state.old work.old (is_err begun) level plan.old trail.old }
     requires remembering { Remembering level.variables (formula_of index.now) memory.old }
-    ensures walks { walked result plan.new trail.new ≡ walk_from dead level index.now state.old plan.old trail.old }
-    ensures whole { Whole work.new }
+    ensures walks { walked result plan.new trail.new ≡ walk_from (is_err begun) level index.now state.old plan.old trail.old }
     ensures remembers { Remembered level.variables (formula_of index.now) memory.old memory.new }
 {
-    if dead {
-        return Walk {
-            outcome: Outcome::NoLayout,
-            count: 0,
-        };
+    if begun.is_err() {
+        return Walk::DEAD_END;
     }
-    if engine::propagate(index, state, work) {
-        return Walk {
-            outcome: Outcome::NoLayout,
-            count: 0,
-        };
+    if engine::propagate(index, state, work).is_err() {
+        return Walk::DEAD_END;
     }
-    let branch = branch_variable(index, state, level.from, level.variables);
-    let Branch::On(p) = branch else {
+    let Some(p) = branch_variable(index, state, level.from, level.variables) else {
         side::write_choice(plan, 0, level.variables, state);
         return Walk {
             outcome: Outcome::LaidOut,
             count: 0,
         };
     };
-    let known = memo::remembered(memory, state, p.0 as usize, level.variables);
-    if known == 0 {
+    let Some(known) = memory.remembered(state, p.0 as usize, level.variables) else {
         return split(index, state, work, memory, p, level, plan, trail);
-    }
+    };
     if known <= level.left {
         return Walk {
             outcome: Outcome::NoLayout,
@@ -147,10 +144,9 @@ fn split(
     plan: &mut [u8],
     trail: &mut [i16],
 ) -> Walk
-    requires splittable { Splittable index.now state.old work.old p.0 level plan.old trail.old }
+    requires splittable { Splittable index.now state.old p.0 level plan.old trail.old }
     requires remembering { Remembering level.variables (formula_of index.now) memory.old }
     ensures walks { walked result plan.new trail.new ≡ split_walk p.0 level index.now state.old plan.old trail.old }
-    ensures whole { Whole work.new }
     ensures remembers { Remembered level.variables (formula_of index.now) memory.old memory.new }
 {
     if level.left == 0 {
@@ -159,18 +155,17 @@ fn split(
             count: 0,
         };
     }
-    memo::count_split(memory);
+    memory.count_split();
     let mut second = *state;
     let x = Literal::new(p, true);
     let out = side::begin(index, state, work, x.code());
     let lower = below(level, p, level.left - 1);
     let a = settle_and_decide(index, state, work, memory, out, lower, plan, trail);
-    let outcome = a.outcome;
-    let Outcome::NoLayout = outcome else {
+    if a.outcome != Outcome::NoLayout {
         return through(a, 1, x.opposite(), level.depth, trail);
-    };
+    }
     let used = 1 + a.count;
-    let held = memo::hold(memory, &second, p.0 as usize, level.variables, used);
+    let held = memory.hold(&second, p.0 as usize, level.variables, used);
     let taken = side::begin(index, &mut second, work, x.opposite().code());
     let rest = below(level, p, level.left - used);
     let b = settle_and_decide(index, &mut second, work, memory, taken, rest, plan, trail);
@@ -179,16 +174,14 @@ fn split(
 }
 
 // Where the second side has no layout either, the slot that is held for the split learns its splits.
-fn learn(memory: &mut Memory, held: Held, n: usize, side: Walk, used: u32)
+fn learn(memory: &mut Memory, held: Option<usize>, n: usize, side: Walk, used: u32)
     requires keepable { Keepable n memory.old held }
     requires fits { Fits w32 (used + side.count) }
     ensures { LearnOf n (used + side.count) memory.old memory.new held side.outcome }
 {
-    let end = side.outcome;
-    let Outcome::NoLayout = end else {
-        return;
-    };
-    memo::keep(memory, held, n, used + side.count);
+    if side.outcome == Outcome::NoLayout {
+        memory.keep(held, n, used + side.count);
+    }
 }
 
 // A walk of one side, as a walk of the split: its splits count on, and on the path to a layout the side is written at its depth.
@@ -196,16 +189,13 @@ fn through(side: Walk, splits: u32, x: Literal, depth: usize, trail: &mut [i16])
     requires { Passable side.count splits x depth trail.old }
     ensures { (result ≡ counted splits side) × (trail.new ≡ noted side.outcome depth x trail.old) }
 {
-    let outcome = side.outcome;
-    let walk = Walk {
-        outcome,
+    if side.outcome == Outcome::LaidOut {
+        trail[depth] = x.entry();
+    }
+    Walk {
+        outcome: side.outcome,
         count: splits + side.count,
-    };
-    let Outcome::LaidOut = outcome else {
-        return walk;
-    };
-    trail[depth] = x.entry();
-    walk
+    }
 }
 
 // The walk of a checked table from the initial state.
@@ -221,10 +211,10 @@ pub fn walk_table(
     requires empty { Empty n memory.old }
     ensures { walked result plan.new trail.new ≡ table_walk n table.now allowance plan.old trail.old }
 {
-    let index = occurrences::build(table);
-    let mut state = [0u16; tally::SIZE];
-    let mut work = [0u16; notes::SIZE];
-    let dead = start::start(&index.words, &mut state, &mut work);
+    let index = Index::build(table);
+    let mut state = Tally::new();
+    let mut work = Notes::new();
+    let begun = start::start(&index, &mut state, &mut work);
     let level = Level {
         variables: n,
         from: 1,
@@ -232,13 +222,6 @@ pub fn walk_table(
         depth: 0,
     };
     settle_and_decide(
-        &index.words,
-        &mut state,
-        &mut work,
-        memory,
-        dead,
-        level,
-        plan,
-        trail,
+        &index, &mut state, &mut work, memory, begun, level, plan, trail,
     )
 }

@@ -11,10 +11,11 @@ use lib.ListN.{length, replicate}
 use lib.Seq.{sets-eq}
 use Rattle.literal.specs.Literal.{max_variables, max_table}
 use Rattle.receipt.specs.declared.Fault.TheVariants.{PlanShort, TrailShort, ReceiptShort}
-use Rattle.receipt.specs.declared.Reading.{Reading}
-use Rattle.receipt.specs.declared.Reading.TheVariants.{Read, Refused}
+use Rattle.std.specs.Prelude.{Result, Err, Ok}
+use Rattle.receipt.specs.declared.Searched.{Searched}
+use Rattle.receipt.specs.declared.Read.{Read}
+use Rattle.receipt.specs.declared.Refusal.{Refusal}
 use Rattle.receipt.specs.declared.Receipt.{Receipt}
-use Rattle.receipt.specs.declared.Searching.{Searching}
 use Rattle.receipt.specs.Receipt.{number_of}
 use Rattle.receipt.specs.Answers.{searching_receipt}
 use Rattle.theory.specs.Refusing.{refused_if, first_refusal, unless}
@@ -52,11 +53,11 @@ module _ (s : List ℕ) (b : ℕ) (plan : List ℕ) (trail : List ℤ) where
   unfolding solve_call
   solve_place = go (read_strip s max_table).reading refl
     where
-      go : (r : Reading) → (read_strip s max_table).reading ≡ r → InStrip (solve_read r (read_strip s max_table).table b plan trail)
-      go (Refused f) e = refusal_bound s max_table f e
-      go (Read n u) e = passed_place n (read_strip s max_table).table (read_accepted s max_table n u e)
+      go : (r : Result Read Refusal) → (read_strip s max_table).reading ≡ r → InStrip (solve_read r (read_strip s max_table).table b plan trail)
+      go (Err f) e = refusal_bound s max_table f e
+      go (Ok d) e = passed_place d.variables (read_strip s max_table).table (read_accepted s max_table d.variables d.used e)
 
-  pub answer_place : (a : Searching) (plan' : List ℕ) (trail' : List ℤ) → search.called a plan' trail' ≡ solve_call s b plan trail → (searching_receipt a).place ≤ max_strip
+  pub answer_place : (a : Result Searched Refusal) (plan' : List ℕ) (trail' : List ℤ) → search.called a plan' trail' ≡ solve_call s b plan trail → (searching_receipt a).place ≤ max_strip
   answer_place a plan' trail' is = rw (ap (λ (c : SearchCall). c.answer) is) solve_place
 
 -- the whole call ----------------------------------------------------------------------------------------------------
@@ -66,7 +67,7 @@ module _ (s : List ℕ) (b : ℕ) (plan old : List ℕ) where
   unfolding window_call
   call_short h = rw (lt-ltb (length old) receipt_length h)
 
-  module _ (a : Searching) (plan' : List ℕ) (trail' : List ℤ) (is : search.called a plan' trail' ≡ solve_call s b plan (replicate max_variables (pos 0))) where
+  module _ (a : Result Searched Refusal) (plan' : List ℕ) (trail' : List ℤ) (is : search.called a plan' trail' ≡ solve_call s b plan (replicate max_variables (pos 0))) where
     pub call_written : (new : List ℕ) → receipt_length ≤ length old → new ≡ over receipt_length (receipt_bytes (searching_receipt a)) old →
         called (searching_receipt a).number plan' new ≡ window_call s b plan old
     unfolding window_call

@@ -15,13 +15,13 @@ use Rattle.literal.specs.Literal.{max_variables, max_table}
 use Rattle.receipt.specs.declared.Fault.TheVariants.{PlanShort, ReceiptShort, TableShort, UnmentionedVariable}
 use Rattle.receipt.specs.declared.Outcome.{Outcome}
 use Rattle.receipt.specs.declared.Outcome.TheVariants.{LaidOut, NoLayout, Stopped}
-use Rattle.receipt.specs.declared.Reading.{Reading}
-use Rattle.receipt.specs.declared.Reading.TheVariants.{Read, Refused}
+use Rattle.std.specs.Prelude.{Result, Err, Ok}
+use Rattle.receipt.specs.declared.Searched.{Searched}
+use Rattle.receipt.specs.declared.Read.{Read}
 use Rattle.receipt.specs.declared.Receipt.{Receipt}
 use Rattle.receipt.specs.declared.Refusal.{Refusal}
-use Rattle.receipt.specs.declared.Searching.{Searching}
 use Rattle.receipt.specs.Receipt.{number_of, outcome_number, refusal, receipt, refused_receipt}
-use Rattle.receipt.specs.Answers.{searching_receipt}
+use Rattle.receipt.specs.Answers.{searching_receipt, reading}
 use Rattle.receipt.proofs.Numbers.{not_refused, outcome_answers}
 use Rattle.theory.specs.Bound.{N}
 use Rattle.theory.specs.Calls.{over, SearchCall, search_refused, search_call, read_call, solve_call, receipt_length, receipt_bytes, WindowCall, written, window_call}
@@ -53,7 +53,7 @@ use Rattle.window.specs.Call.{Acceptable, Stamped, Call, Reports, refused_call, 
 
 -- a strip that is read ---------------------------------------------------------------------------------------------
 
-strip_exactly : (s : List ℕ) → Bytes s → (n u : ℕ) (t : List ℤ) → length t ≡ max_table → (read_strip s max_table).reading ≡ Read n u → (l : List Item) × StripWithin s n l
+strip_exactly : (s : List ℕ) → Bytes s → (n u : ℕ) (t : List ℤ) → length t ≡ max_table → (read_strip s max_table).reading ≡ reading n u → (l : List Item) × StripWithin s n l
 unfolding read_call
 strip_exactly s b n u t k e = let r = (read_accepts s t (read_call s t).answer (read_call s t).table refl b n u).0 (rw k e) in (r.0, r.1)
 
@@ -69,11 +69,11 @@ receipt_read r old = let n = numbers_read r old in rw (n.0, n.1, n.2, n.3)
 -- solving, by how the strip reads ----------------------------------------------------------------------------------
 
 module _ (s : List ℕ) (b : ℕ) (plan : List ℕ) (trail : List ℤ) where
-  solve_refused : (f : Refusal) → (read_strip s max_table).reading ≡ Refused f → solve_call s b plan trail ≡ search_refused f plan trail
+  solve_refused : (f : Refusal) → (read_strip s max_table).reading ≡ Err f → solve_call s b plan trail ≡ search_refused f plan trail
   unfolding solve_call
   solve_refused f e = rw e
 
-  solve_reads : (n u : ℕ) → (read_strip s max_table).reading ≡ Read n u → solve_call s b plan trail ≡ search_call n (read_strip s max_table).table b plan trail
+  solve_reads : (n u : ℕ) → (read_strip s max_table).reading ≡ reading n u → solve_call s b plan trail ≡ search_call n (read_strip s max_table).table b plan trail
   unfolding solve_call
   solve_reads n u e = rw e
 
@@ -107,19 +107,19 @@ module _ {s : List ℕ} {b : ℕ} {plan old : List ℕ} {w : WindowCall} (h : St
   pub window_names : Bytes s → Names (UnknownInStrip s) (receipt_on w.receipt)
   window_names k = rw (stamped, receipt_read) (go (read_strip s max_table).reading refl)
     where
-      go : (r : Reading) → (read_strip s max_table).reading ≡ r → Names (UnknownInStrip s) (searching_receipt (solve_call s b plan own).answer)
-      go (Refused f) e = rw (solve_refused s b plan own f e) (rw e at (strip_names s k max_table))
-      go (Read n u) e = rw (solve_reads s b plan own n u e) (promises.search_names_by n (read_strip s max_table).table b plan own _ refl (passed_named (read_accepted s max_table n u e)))
+      go : (r : Result Read Refusal) → (read_strip s max_table).reading ≡ r → Names (UnknownInStrip s) (searching_receipt (solve_call s b plan own).answer)
+      go (Err f) e = rw (solve_refused s b plan own f e) (rw e at (strip_names s k max_table))
+      go (Ok d) e = rw (solve_reads s b plan own d.variables d.used e) (promises.search_names_by d.variables (read_strip s max_table).table b plan own _ refl (passed_named (read_accepted s max_table d.variables d.used e)))
 
   -- "Elements not named are never changed."
   pub window_receipt_rest : drop receipt_length w.receipt ≡ drop receipt_length old
   window_receipt_rest = rw stamped
 
   -- "Window: 9, strip refusals except 23": of a refused strip
-  pub window_strip_refused : (f : Refusal) → (read_strip s max_table).reading ≡ Refused f → w ≡ refused_call f plan old
+  pub window_strip_refused : (f : Refusal) → (read_strip s max_table).reading ≡ Err f → w ≡ refused_call f plan old
   window_strip_refused f e = stamped ∙ ap (λ (c : SearchCall). written c old) (solve_refused s b plan own f e)
 
-  module _ (n u : ℕ) (e : (read_strip s max_table).reading ≡ Read n u) where
+  module _ (n u : ℕ) (e : (read_strip s max_table).reading ≡ reading n u) where
     read : w ≡ written (search_call n (read_strip s max_table).table b plan own) old
     read = stamped ∙ ap (λ (c : SearchCall). written c old) (solve_reads s b plan own n u e)
 
@@ -134,26 +134,27 @@ module _ {s : List ℕ} {b : ℕ} {plan old : List ℕ} {w : WindowCall} (h : St
 
   -- a strip that reads, with more placements than the plan has room for
   abbrev Overlong : Type 0
-  Overlong = (n : ℕ) × (u : ℕ) × ((read_strip s max_table).reading ≡ Read n u) × (length plan < n)
+  Overlong = (n : ℕ) × (u : ℕ) × ((read_strip s max_table).reading ≡ reading n u) × (length plan < n)
 
   -- every call is refused, or searches what was read
   abbrev Turned : Type 0
-  Turned = (f : Refusal) × (w ≡ refused_call f plan old) × (((read_strip s max_table).reading ≡ Refused f) ⊎ ((f ≡ refusal PlanShort 0) × Overlong))
+  Turned = (f : Refusal) × (w ≡ refused_call f plan old) × (((read_strip s max_table).reading ≡ Err f) ⊎ ((f ≡ refusal PlanShort 0) × Overlong))
 
   abbrev Answered : Type 0
-  Answered = (n : ℕ) × (u : ℕ) × ((read_strip s max_table).reading ≡ Read n u) × (n ≤ length plan) × ((o : Outcome) × Reports w o)
+  Answered = (n : ℕ) × (u : ℕ) × ((read_strip s max_table).reading ≡ reading n u) × (n ≤ length plan) × ((o : Outcome) × Reports w o)
 
   fate : Turned ⊎ Answered
   fate = go (read_strip s max_table).reading refl
     where
-      go : (r : Reading) → (read_strip s max_table).reading ≡ r → Turned ⊎ Answered
-      go (Refused f) e = inl (f, window_strip_refused f e, inl e)
-      go (Read n u) e = elim (dec_lt (length plan) n) [
-        | yes k ↦ inl (refusal PlanShort 0, window_plan_short n u e k, inr (refl, (n, u, e, k)))
+      go : (r : Result Read Refusal) → (read_strip s max_table).reading ≡ r → Turned ⊎ Answered
+      go (Err f) e = inl (f, window_strip_refused f e, inl e)
+      go (Ok d) e = elim (dec_lt (length plan) d.variables) [
+        | yes k ↦ inl (refusal PlanShort 0, window_plan_short d.variables d.used e k, inr (refl, (d.variables, d.used, e, k)))
         | no k ↦
-            let l : n ≤ length plan = omega arith in
-            let q = ap (λ (c : WindowCall). c.number) (read n u e) in
-            inr (n, u, e, l, ⊎_elim (λ r. (LaidOut, q ∙ r)) (⊎_elim (λ r. (NoLayout, q ∙ r)) (λ r. (Stopped, q ∙ r))) (promises.search_ends (searched n u e l)))
+            let l : d.variables ≤ length plan = omega arith in
+            let q = ap (λ (c : WindowCall). c.number) (read d.variables d.used e) in
+            let ends = promises.search_ends (searched d.variables d.used e l) in
+            inr (d.variables, d.used, e, l, ⊎_elim (λ r. (LaidOut, q ∙ r)) (⊎_elim (λ r. (NoLayout, q ∙ r)) (λ r. (Stopped, q ∙ r))) ends)
       ]
 
   turned_unanswered : Turned → (o : Outcome) → ¬ Reports w o
@@ -171,7 +172,7 @@ module _ {s : List ℕ} {b : ℕ} {plan old : List ℕ} {w : WindowCall} (h : St
       fate
 
   -- a number above 11 is that of a refusal of the strip
-  of_strip : 11 < w.number → (f : Refusal) × (w ≡ refused_call f plan old) × ((read_strip s max_table).reading ≡ Refused f)
+  of_strip : 11 < w.number → (f : Refusal) × (w ≡ refused_call f plan old) × ((read_strip s max_table).reading ≡ Err f)
   of_strip k = ⊎_elim
       (λ r. ⊎_elim
       (λ q. (r.0, r.1, q))
@@ -212,10 +213,10 @@ module _ {s : List ℕ} {n : ℕ} {l : List Item} {b : ℕ} {plan old : List ℕ
   abbrev trail : List ℤ
   trail = replicate max_variables (posℤ 0)
 
-  is_read : read_strip s max_table ≡ record { reading = Read n (length table); table = table }
+  is_read : read_strip s max_table ≡ record { reading = reading n (length table); table = table }
   is_read = within_read h.bytes h.acceptable.strip
 
-  reads : (read_strip s max_table).reading ≡ Read n (length table)
+  reads : (read_strip s max_table).reading ≡ reading n (length table)
   reads = ap (λ (d : Decoding). d.reading) is_read
 
   abbrev found : SearchCall
@@ -328,8 +329,8 @@ module _ {s s' : List ℕ} {n : ℕ} {l l' : List Item} {b b' : ℕ} {plan plan'
     (c : Call s n l b plan old w) (d : Call s' n l' b' plan' old' w') (same : groups l' ≡ groups l) where
   alike : search.Alike n (found c) (found d) → Alike n w w'
   alike a = record {
-    number = reported d (ap (λ (u : Searching). (searching_receipt u).number) a.answer ∙ reports c refl);
-    count = count_is d ∙ ap (λ (u : Searching). (searching_receipt u).count) a.answer ∙ sym (count_is c);
+    number = reported d (ap (λ (u : Result Searched Refusal). (searching_receipt u).number) a.answer ∙ reports c refl);
+    count = count_is d ∙ ap (λ (u : Result Searched Refusal). (searching_receipt u).count) a.answer ∙ sym (count_is c);
     plan = ap (take n) (plan_is d) ∙ a.plan ∙ sym (ap (take n) (plan_is c));
   }
 

@@ -31,8 +31,7 @@ fn write_receipt(list: &mut [u8], receipt: Receipt)
     put_number(list, 0, receipt.number);
     put_number(list, 4, receipt.place as u32);
     put_number(list, 8, receipt.count);
-    let clause = receipt.clause;
-    put_number(list, 12, clause.0 as u32);
+    put_number(list, 12, receipt.clause.0 as u32);
 }
 
 // The trail is the window's own: nobody sees it.
@@ -40,13 +39,11 @@ pub fn window(strip: &[u8], allowance: u32, plan: &mut [u8], receipt: &mut [u8])
     ensures { called result plan.new receipt.new ≡ window_call strip.now allowance plan.old receipt.old }
 {
     if receipt.len() < RECEIPT_LENGTH {
-        let fault = Fault::ReceiptShort;
-        return fault.number();
+        return Fault::ReceiptShort.number();
     }
     let mut trail = [0i16; Literal::MAX_VARIABLES];
     let solved = solve::solve(strip, allowance, plan, &mut trail);
-    let answer = solved.answer;
-    let written = answer.receipt();
+    let written = receipt::searching_receipt(solved.answer);
     write_receipt(receipt, written);
     written.number
 }

@@ -13,5 +13,5 @@ stored u g b l room list = (append_both list (append_one l (u + length g) (pos 0
 pub returns : goal.returns
 returns c =
     let a = c.args in
-    let e = rw (take-length a.group.now) at c.copy_numbers.ensures in
+    let e = rw (take-length a.group.now) at c.copy.ensures in
     stored a.used a.group.now a.buffer.now _ c.requires (record { ends = refl; room = omega (arith, c.requires); whole = e })

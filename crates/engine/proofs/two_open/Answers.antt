@@ -14,19 +14,19 @@ open_place-j-requires c = opens_second c.requires.opens c.requires.g_value (firs
 pub returns-then-x-y : goal.returns-then-x-y
 returns-then-x-y c =
     two_dead c.requires.opens c.requires.g_value (first (goal.at.returns-then-x-y c).After-open_place-i) c.open_place-j.ensures _ _
-    c.value_at-x.ensures c.value_at-y.ensures c.if-x-y.true
+    c.value_of_code-x.ensures c.value_of_code-y.ensures c.if-x-y.true
 
 pub returns-then-x-y-2 : goal.returns-then-x-y-2
 returns-then-x-y-2 c =
     two_rest c.requires.opens c.requires.g_value (first (goal.at.returns-then-x-y-2 c).After-open_place-i) c.open_place-j.ensures _ _
-    c.value_at-x.ensures c.value_at-y.ensures c.if-x-y.false c.if-x-y-2.true
+    c.value_of_code-x.ensures c.value_of_code-y.ensures c.if-x-y.false c.if-x-y-2.true
 
 pub returns-then-x-y-3 : goal.returns-then-x-y-3
 returns-then-x-y-3 c =
     two_tie c.requires.opens c.requires.g_value (first (goal.at.returns-then-x-y-3 c).After-open_place-i) c.open_place-j.ensures _ _
-    c.value_at-x.ensures c.value_at-y.ensures (omega (arith, c.if-x-y-3.true, c.if-x-y-2.false))
+    c.value_of_code-x.ensures c.value_of_code-y.ensures (omega (arith, c.if-x-y-3.true, c.if-x-y-2.false))
 
 pub returns : goal.returns
 returns c =
     two_turned c.requires.opens c.requires.g_value (first (goal.at.returns c).After-open_place-i) c.open_place-j.ensures _ _
-    c.value_at-x.ensures c.value_at-y.ensures (omega (arith, c.if-x-y-3.false, c.if-x-y-2.false))
+    c.value_of_code-x.ensures c.value_of_code-y.ensures (omega (arith, c.if-x-y-3.false, c.if-x-y-2.false))

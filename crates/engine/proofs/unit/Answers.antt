@@ -20,12 +20,12 @@ pub returns-then-count-eq1 : goal.returns-then-count-eq1
 returns-then-count-eq1 c =
     unit_one c.requires.sound _ c.requires.g_bound (sym c.count_of-count.ensures ∙ c.if-count-eq1.true) c.open_entry-x.result c.opposite.result
     c.open_entry-x.ensures (at_code c.opposite.result (opposite (literal_at c.open_entry-x.result)) c.opposite.ensures)
-    c.decide.new.state c.decide.new.work c.decide.result c.decide.ensures
+    _ _ _ c.decide.ensures
 
 pub returns-then-count-gt-ONE_TRUE : goal.returns-then-count-gt-ONE_TRUE
 returns-then-count-gt-ONE_TRUE c =
     unit_clears c.requires.sound _ c.requires.g_bound (omega (arith, c.if-count-gt-ONE_TRUE.true, c.count_of-count.ensures))
-    c.clear_others.new.state c.clear_others.new.work c.clear_others.result c.clear_others.ensures
+    _ _ _ c.clear_others.ensures
 
 pub returns : goal.returns
 returns c =

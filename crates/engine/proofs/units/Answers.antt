@@ -1,20 +1,17 @@
-use Rattle.std.proofs.Common.{arith}
-use Rattle.engine.proofs.Loops.{looking_begins, looking_dead, looking_goes}
+use Rattle.std.proofs.Common.{◌≡◌, Err, rules}
+use Rattle.moves.proofs.Dying.{died_fallen}
+use Rattle.engine.proofs.Loops.{looking_begins, looking_goes}
 use Rattle.engine.proofs.units.Goals as goal
 
 pub loop-at-init : goal.loop-at-init
 loop-at-init c = looking_begins c.requires
 
-pub unit-requires-clause-g_bound : goal.unit-requires-clause-g_bound
-unit-requires-clause-g_bound c =
-    rw c.todo_at-g.ensures (c.loop-at.invariant.moved.went.sound.todo_inside c.loop-at.at (omega (arith, c.loop-at-test.true, c.todo_end.ensures)))
-
-pub returns-then-unit : goal.returns-then-unit
-returns-then-unit c =
-    let e = c.if-unit.ensures in
-    (looking_dead c.loop-at.invariant (omega (arith, c.loop-at-test.true, c.todo_end.ensures)) e.0, e.1)
+pub returns-in_err-unit : goal.returns-in_err-unit
+returns-in_err-unit c =
+    let e : c.from_residual.result ≡ Err c.in_err-unit.field-0.0 = search rules in
+    rw e (died_fallen c.loop-at.invariant.falls c.in_err-unit.ensures)
 
 pub loop-at-preserved : goal.loop-at-preserved
 loop-at-preserved c =
-    let e = c.if-unit.ensures in
-    looking_goes c.loop-at.invariant (omega (arith, c.loop-at-test.true, c.todo_end.ensures)) e.0 e.1 (rw c.todo_at-g.ensures at e.2)
+    let e = c.in_ok-unit.ensures in
+    looking_goes c.loop-at.invariant c.loop-at-test.true e.0 e.1 (rw c.todo_at-g.ensures at e.2)

@@ -5,8 +5,8 @@ use Rattle.gather.proofs.gather.Goals as goal
 
 pub gather_stretch-requires : goal.gather_stretch-requires
 gather_stretch-requires c =
-    let a = c.requires.at_root in
-    record { index = a.index; whole = c.requires.whole; room = omega arith; stretch = ((ring a).others, rw c.link_of.ensures (root_stretch a)) }
+    let a = c.requires in
+    record { index = a.index; room = omega arith; stretch = ((ring a).others, rw c.link_of.ensures (root_stretch a)) }
 
 pub returns : goal.returns
-returns c = root_gathered c.requires.at_root (rw c.link_of.ensures at c.gather_stretch.ensures)
+returns c = root_gathered c.requires (rw c.link_of.ensures at c.gather_stretch.ensures)

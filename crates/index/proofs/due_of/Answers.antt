@@ -1,38 +1,39 @@
 -- The refusals in their order, and else a head for each group.
-use Rattle.std.proofs.Common.{◌≡◌, ℕ, List, sym, ap, ◌∙◌}
-use lib.IntN.{ℤ}
-use borrow.Author.Tests.{lt-ltb, le-ltb}
-use Rattle.receipt.specs.declared.Checked.{Checked}
-use Rattle.receipt.specs.declared.Checked.TheVariants.{Passed, Refused}
-use Rattle.theory.specs.Table.{check}
-use Rattle.table.proofs.Passes.{verdict_check, clauses_exact}
-use Rattle.table.specs.Pass.{begin, after, verdict}
+use Rattle.std.proofs.Common.{rules, ◌≡◌, ap, sym, ◌∙◌}
+use Rattle.std.specs.Prelude.{Err}
+use Rattle.receipt.specs.Receipt.{pass}
+use Rattle.theory.specs.Table.{zeros, check}
 use Rattle.table.specs.declared.Pass.{Pass}
-use Rattle.index.specs.Index.{due_refused, due_checked, due_of}
+use Rattle.table.specs.Pass.{verdict}
+use Rattle.table.proofs.Passes.{verdict_check, clauses_exact}
+use Rattle.index.specs.Index.{due_of}
 use Rattle.index.proofs.due_of.Goals as goal
-use Rattle.index.proofs.due_of.Goals.{After-verdict-checked}
+use Rattle.index.proofs.due_of.Goals.{After-verdict, In_ok-verdict}
 
--- what the state after the table and its verdict say of a call
-module _ (n room : ℕ) (t : List ℤ) (s : Pass) (k : Checked) (gone : s ≡ after (begin n) t) (judged : k ≡ verdict s) where
-  checked : check n t ≡ k
-  checked = sym (judged ∙ ap verdict gone ∙ verdict_check n t)
+-- the verdict on the state after the table is the check, and the state's count is the table's where that passes
+checked : (c : After-verdict) → check c.args.n c.args.table.now ≡ c.verdict.result
+checked c = sym (c.verdict.ensures ∙ ap verdict (rw c.begin.ensures at c.after-pass.ensures) ∙ verdict_check _ _)
 
-  decided : (v : Checked) → k ≡ v → due_checked v s.clauses room ≡ due_of n t room
-  unfolding due_of
-  decided (Refused r) is = rw (checked, is)
-  decided Passed is = rw (checked, is, gone, clauses_exact n t (checked ∙ is))
+counted : (c : In_ok-verdict) → check c.args.n c.args.table.now ≡ pass → c.after-pass.result.clauses ≡ zeros c.args.table.now
+counted c passed = ap (λ (s : Pass). s.clauses) (rw c.begin.ensures at c.after-pass.ensures) ∙ clauses_exact _ _ passed
 
-due : (c : After-verdict-checked) (v : Checked) → c.verdict-checked.result ≡ v → due_checked v c.after-pass.result.clauses c.args.room ≡ due_of c.args.n c.args.table.now c.args.room
-due c = decided c.args.n c.args.room c.args.table.now c.after-pass.result c.verdict-checked.result (rw c.begin.ensures at c.after-pass.ensures) c.verdict-checked.ensures
+pub returns-in_err-verdict : goal.returns-in_err-verdict
+unfolding due_of
+returns-in_err-verdict c =
+    let e : c.from_residual.result ≡ Err c.in_err-verdict.field-0.0 = search rules in
+    rw (e, checked (goal.at.returns-in_err-verdict c).After-verdict ∙ c.in_err-verdict.was)
 
-pub returns-in-Refused : goal.returns-in-Refused
-returns-in-Refused c = c.refused.ensures ∙ due (goal.at.returns-in-Refused c).After-verdict-checked _ c.in-Refused.is
-
-pub returns-then-room-clauses : goal.returns-then-room-clauses
-returns-then-room-clauses c =
-    c.refused-then-room-clauses.ensures
-    ∙ ap due_refused c.new.ensures
-    ∙ rw (lt-ltb _ _ c.if-room-clauses.true) at (due (goal.at.returns-then-room-clauses c).After-verdict-checked Passed c.in-Passed.is)
+pub returns-in_err-at_most : goal.returns-in_err-at_most
+unfolding due_of
+returns-in_err-at_most c =
+    let e : c.from_residual-in_err-at_most.result ≡ Err c.in_err-at_most.field-0.0 = search rules in
+    let at = goal.at.returns-in_err-at_most c in
+    let passed = checked at.After-verdict ∙ c.in_ok-verdict.was in
+    rw (e, passed, ← counted at.In_ok-verdict passed, sym c.at_most.ensures ∙ c.in_err-at_most.was)
 
 pub returns : goal.returns
-returns c = rw (le-ltb _ _ c.if-room-clauses.false) at (due (goal.at.returns c).After-verdict-checked Passed c.in-Passed.is)
+unfolding due_of
+returns c =
+    let at = goal.at.returns c in
+    let passed = checked at.After-verdict ∙ c.in_ok-verdict.was in
+    rw (passed, ← counted at.In_ok-verdict passed, sym c.at_most.ensures ∙ c.in_ok-at_most.was)

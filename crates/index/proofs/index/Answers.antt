@@ -1,44 +1,36 @@
 -- The heads that are due have room, and a turn stores the first of those that are left.
-use Rattle.std.proofs.Common.{rules, ◌≡◌, ℕ, suc, ◌+◌, ◌-◌, ◌<◌, ◌≤◌, List, length, set, ap, ◌∙◌, arith, add-one, length-set}
-use lib.IntN.{ℤ}
-use lib.Seq.{sets}
-use Rattle.receipt.specs.declared.Head.{Head}
-use Rattle.index.specs.declared.Next.{Next}
-use Rattle.index.specs.declared.Due.{Due}
-use Rattle.index.specs.Index.{next_head, heads_at, due_of, called}
-use Rattle.index.proofs.Heads.{due_room, index_stored}
+use Rattle.std.proofs.Common.{rules, ◌≡◌, sym, ◌∙◌, length, take, length-take-le}
+use Rattle.std.specs.Prelude.{Ok, Err}
+use Rattle.index.proofs.Heads.{Stored, index_stored, stored_turned, stored_ended}
 use Rattle.index.proofs.index.Goals as goal
+use Rattle.index.proofs.index.Goals.{In_ok-due}
 
-due-within : (n : ℕ) (t : List ℤ) (hs : List Head) (d : Due) → d ≡ due_of n t (length hs) → d.heads ≤ length hs
-due-within n t hs d e = rw e (due_room n t hs)
+due : (c : In_ok-due) → Stored c.args.n c.args.table.now c.args.heads.now (Ok c.in_ok-due.due)
+due c = rw (sym c.due_of.ensures ∙ c.in_ok-due.was) at (index_stored c.args.n c.args.table.now c.args.heads.now)
 
-turned : (t : List ℤ) (ys zs : List Head) (count at k : ℕ) (x : Next) → sets zs k (heads_at (count - k) t at) ≡ sets ys 0 (heads_at count t 0) → x ≡ next_head t at → k < count →
-    sets (set zs k x.head) (k + 1) (heads_at (count - (k + 1)) t x.next) ≡ sets ys 0 (heads_at count t 0)
-unfolding heads_at
-turned t ys zs count at k x left e less =
-    let z : count - k ≡ suc (count - (k + 1)) = omega arith in
-    rw (e, add-one) (rw (z, add-one) at left)
+lent : (c : In_ok-due) → length (take c.in_ok-due.due c.args.heads.now) ≡ c.in_ok-due.due
+lent c = length-take-le c.in_ok-due.due c.args.heads.now (due c).0
 
-all-stored : (t : List ℤ) (ys zs : List Head) (count at k : ℕ) → sets zs k (heads_at (count - k) t at) ≡ sets ys 0 (heads_at count t 0) → count ≤ k → zs ≡ sets ys 0 (heads_at count t 0)
-unfolding heads_at
-all-stored t ys zs count at k left over = let z : count - k ≡ 0 = omega arith in rw z at left
+pub returns-in_err-due : goal.returns-in_err-due
+returns-in_err-due c =
+    let e : c.from_residual.result ≡ Err c.in_err-due.field-0.0 = search rules in
+    rw e (rw (sym c.due_of.ensures ∙ c.in_err-due.was) at (index_stored c.args.n c.args.table.now c.args.heads.now))
 
-pub offset_bounds-heads-k : goal.offset_bounds-heads-k
-offset_bounds-heads-k c =
-    let h : c.loop-k.k < length c.loop-k.heads = omega (arith, due-within _ _ _ _ c.due_of-due.ensures, c.loop-k.invariant.same, c.loop-k-test.true) in
-    search rules
+pub slice_bounds-head-items-end : goal.slice_bounds-head-items-end
+slice_bounds-head-items-end c = (due c).0
 
-pub bounds-heads-k : goal.bounds-heads-k
-bounds-heads-k c = omega (arith, due-within _ _ _ _ c.due_of-due.ensures, c.loop-k.invariant.same, c.loop-k-test.true)
+pub slice_bounds-head-items-end-2 : goal.slice_bounds-head-items-end-2
+slice_bounds-head-items-end-2 c = sym (lent (goal.at.slice_bounds-head-items-end-2 c).In_ok-due)
 
-pub loop-k-preserved : goal.loop-k-preserved
-loop-k-preserved c = record {
-  same = length-set _ _ _ ∙ c.loop-k.invariant.same;
-  within = omega arith;
-  left = turned _ _ _ _ _ _ _ c.loop-k.invariant.left c.next_head-x.ensures c.loop-k-test.true;
-}
+pub loop-head-preserved : goal.loop-head-preserved
+loop-head-preserved c =
+    let l = c.loop-head in
+    let room = l.auto.head-items ∙ lent (goal.at.loop-head-preserved c).In_ok-due in
+    stored_turned c.args.table.now c.in_ok-due.due l.head-items room l.at l.head-index _ c.next_head-next.ensures (rw l.auto.head-items c.loop-head-test.true) ∙ l.invariant
 
 pub returns : goal.returns
 returns c =
-    ap (called c.due_of-due.result.answer) (all-stored _ _ _ _ _ _ c.loop-k.invariant.left c.loop-k-test.false)
-    ∙ rw c.due_of-due.ensures (index_stored c.args.n c.args.table.now c.args.heads.now)
+    let l = c.loop-head in
+    let at = (goal.at.returns c).In_ok-due in
+    let e = stored_ended c.args.table.now c.in_ok-due.due l.head-items (l.auto.head-items ∙ lent at) l.at l.head-index (rw l.auto.head-items c.loop-head-test.false) in
+    rw (sym e ∙ l.invariant) (due at).1

@@ -1,5 +1,5 @@
-use Rattle.meet.proofs.Reading.{MarkWalk}
+use Rattle.meet.proofs.Reading.{Marking}
 use Rattle.meet.proofs.mark_clause.Given as goal
 
-abbrev pub invariant-loop-i : goal.invariant-loop-i
-invariant-loop-i l = MarkWalk l.index l.state l.g l.start l.end l.marks l.i
+abbrev pub invariant-loop-code : goal.invariant-loop-code
+invariant-loop-code l = Marking l.index l.state l.g l.code-items l.marks l.code-index

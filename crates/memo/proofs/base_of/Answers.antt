@@ -7,10 +7,6 @@ pub overflow_mul-result : goal.overflow_mul-result
 unfolding slot_at
 overflow_mul-result c = omega (arith, c.requires.slot_bound)
 
-pub overflow_add-result-2 : goal.overflow_add-result-2
-unfolding slot_at
-overflow_add-result-2 c = omega (arith, c.requires.slot_bound)
-
 pub returns : goal.returns
 unfolding slot_at
 returns c = refl

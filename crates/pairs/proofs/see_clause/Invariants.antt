@@ -1,5 +1,5 @@
 use Rattle.pairs.proofs.Seeing.{Sees}
 use Rattle.pairs.proofs.see_clause.Given as goal
 
-abbrev pub invariant-loop-i : goal.invariant-loop-i
-invariant-loop-i l = Sees l.index l.state l.fn.seen l.g l.set l.start l.end l.seen l.i
+abbrev pub invariant-loop-code : goal.invariant-loop-code
+invariant-loop-code l = Sees l.state l.code-items l.fn.seen l.set l.seen l.code-index

@@ -1,14 +1,12 @@
-use Rattle.std.proofs.Common.{length, ◌-◌, ◌≡◌, ◌+◌, ◌≤◌}
-use Rattle.clause.specs.Reading.{Begins}
-use Rattle.propagate.specs.Code.{first_from}
+use Rattle.std.proofs.Common.{◌≡◌}
+use Rattle.rules.specs.Rules.{rule_of}
+use Rattle.propagate.specs.Code.{first_from, asks_ahead}
 use Rattle.propagate.proofs.first_clause.Given as goal
 
-abbrev pub invariant-loop-i : goal.invariant-loop-i
-invariant-loop-i l = record {
-  begins : Begins l.table l.i;
-  low : l.k ≤ l.i + 1;
-  same : first_from l.table l.values l.rule l.k l.i ≡ first_from l.table l.values l.rule l.fn.clause.0 l.from;
+abbrev pub invariant-loop-clause : goal.invariant-loop-clause
+invariant-loop-clause l = record {
+  can : (goal.iterator-loop-clause).can_next l.clause-iterator;
+  finite : (goal.iterator-loop-clause).is_finite l.clause-iterator;
+  of : l.clause-iterator.of ≡ l.standing;
+  same : asks_ahead (rule_of l.rule) l.clause-iterator ≡ first_from l.standing.table.now l.standing.state.now.values l.rule 1 0;
 }
-
-abbrev pub decreases-loop-i : goal.decreases-loop-i
-decreases-loop-i l = length l.table - l.i

@@ -1,46 +1,52 @@
 -- The clauses that are left give the same first pair as all.
-use Rattle.std.proofs.Common.{arith, refl, ◌∙◌}
-use Rattle.clause.proofs.Clauses.{Advances, advances}
-use Rattle.propagate.specs.Partners.{next_of}
-use Rattle.propagate.proofs.Scanning.{pair_asks, pair_passes, pair_end}
+use Rattle.std.proofs.Common.{◌≡◌, false, true, refl, sym, ◌∙◌, Option, None, Some}
+use Rattle.std.specs.Prelude.{is_some}
+use Rattle.general.specs.Booleans.{true_not_false}
+use Rattle.propagate.specs.Partners.{first_partner}
+use Rattle.propagate.proofs.Scanning.{partner_ahead, pair_asks, pair_passes, pair_end}
+use Rattle.propagate.proofs.Partners.{alone_none, noted_more}
 use Rattle.propagate.proofs.first_pair.Goals as goal
-use Rattle.propagate.proofs.first_pair.Goals.{After-partner_of-found, After-next_clause-g}
+use Rattle.propagate.proofs.first_pair.Goals.{After-first_partner-found}
 
--- the clause at g, and the next one
-here : (c : After-partner_of-found) → Advances c.args.table.now c.loop-g.g (next_of c.args.table.now c.loop-g.g)
-here c = advances c.loop-g.invariant.begins c.loop-g-test.true refl
+-- what was found is the first partner of the clause that was passed
+found : (c : After-first_partner-found) → let s = c.loop-g.clauses in
+    c.first_partner-found.result ≡ first_partner c.args.standing.table.now c.args.standing.state.now.values c.args.rule s.clause.0 c.in-Some.g
+found c = rw (← c.loop-g.invariant.of) (c.first_partner-found.ensures ∙ partner_ahead c.in-Some.ensures.steps c.args.rule)
 
-further : (c : After-next_clause-g) → Advances c.args.table.now c.loop-g.g c.next_clause-g.result
-further c = advances c.loop-g.invariant.begins c.loop-g-test.true c.next_clause-g.ensures
+pub loop-g-preserved-then-alone-g : goal.loop-g-preserved-then-alone-g
+loop-g-preserved-then-alone-g c =
+    let k = c.loop-g.invariant in
+    let p = c.in-Some.ensures.steps in
+    record {
+      of = p.same ∙ k.of;
+      same = pair_passes p c.args.rule (rw k.of (alone_none _ _ c.args.rule _ c.in-Some.g (k.noted.alone c.in-Some.g c.if-alone-g.true))) ∙ k.same;
+      noted = k.noted;
+    }
 
-pub returns-in-Asks-clause-says : goal.returns-in-Asks-clause-says
-returns-in-Asks-clause-says c =
-    let a = c.args in
-    rw c.in-Asks.is
-    (pair_asks a.rule a.values.now c.loop-g.k (here (goal.at.returns-in-Asks-clause-says c).After-partner_of-found) c.in-Asks.ensures.says
-    ∙ c.loop-g.invariant.same)
+some : {A : Type 0} (o : Option A) → is_some o ≡ true → (x : A) × (o ≡ Some x)
+some None e = absurd (true_not_false e refl)
+some (Some x) e = (x, refl)
 
-pub loop-g-smaller : goal.loop-g-smaller
-loop-g-smaller c =
-    let f = further (goal.at.loop-g-smaller c).After-next_clause-g in
-    omega (arith, f.further, f.begins.inside)
+nothing : {A : Type 0} (o : Option A) → is_some o ≡ false → o ≡ None
+nothing None e = refl
+nothing (Some x) e = absurd (true_not_false refl e)
+
+pub returns-then-is_some-clause-says : goal.returns-then-is_some-clause-says
+returns-then-is_some-clause-says c =
+    let k = c.loop-g.invariant in
+    let w = some c.first_partner-found.result (sym c.is_some.ensures ∙ c.if-is_some.true) in
+    w.1 ∙ pair_asks c.in-Some.ensures.steps c.args.rule (rw k.of (sym w.1 ∙ found (goal.at.returns-then-is_some-clause-says c).After-first_partner-found)) ∙ k.same
 
 pub loop-g-preserved : goal.loop-g-preserved
 loop-g-preserved c =
-    let a = c.args in
-    let l = c.loop-g in
-    let f = further (goal.at.loop-g-preserved c).After-next_clause-g in
+    let k = c.loop-g.invariant in
+    let p = c.in-Some.ensures.steps in
+    let n = sym (nothing c.first_partner-found.result (sym c.is_some.ensures ∙ c.if-is_some.false)) ∙ found (goal.at.loop-g-preserved c).After-first_partner-found in
     record {
-      begins = f.begins;
-      low = omega (arith, l.invariant.low, f.further);
-      same =
-          rw c.next_clause-g.ensures
-          (pair_passes a.rule a.values.now l.k (here (goal.at.loop-g-preserved c).After-partner_of-found) (rw c.in_default.is at c.partner_of-found.ensures.says)
-          ∙ l.invariant.same);
-      noted = c.partner_of-found.ensures.noted;
+      of = p.same ∙ k.of;
+      same = pair_passes p c.args.rule (rw k.of n) ∙ k.same;
+      noted = noted_more _ _ c.args.rule k.noted c.loop-g.clauses.clause.0 c.in-Some.g n;
     }
 
 pub returns-clause-says : goal.returns-clause-says
-returns-clause-says c =
-    let a = c.args in
-    pair_end a.rule a.values.now c.loop-g.k a.table.now c.loop-g.g c.loop-g-test.false ∙ c.loop-g.invariant.same
+returns-clause-says c = pair_end c.loop-g.clauses c.in_default.ensures.steps c.args.rule ∙ c.loop-g.invariant.same

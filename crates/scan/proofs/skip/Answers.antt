@@ -1,38 +1,36 @@
--- By the laws of Words.
-use Rattle.std.proofs.Common.{◌≡◌, refl, ◌∙◌, Bool, true, false, not, cond, List, ℕ, ◌+◌, ◌<◌, length, get_or, drop, arith}
+-- As many bytes as the test passes.
+use Rattle.std.proofs.Common.{◌≡◌, ap, sym, ◌∙◌, refl, Bool, true, false, not, cond, List, [], ℕ, ◌+◌, length, drop, drop_of_length-le, Option, Some, None, unwrap_or, ⊎_elim, arith, rules}
 use mathlib.Core.Bool.{beq}
-use borrow.Author.Tests.{not-true, not-false}
+use denote.Ref.{Bor}
+use borrow.Author.Tests.{tests}
+use Rattle.std.specs.List.{PartBy}
+use Rattle.std.proofs.lemmas.Slice.{between_to_end}
+use Rattle.std.proofs.lemmas.Iterator.{YieldsList-from_slice}
+use Rattle.std.proofs.lemmas.Iterator.Consumers.{count_from_yields_List}
+use Rattle.std.proofs.lemmas.Iterator.Search.{YieldsList-from_take_while}
+use Rattle.std.proofs.lemmas.List.Folds.{length-prefix_len}
 use Rattle.scan.specs.Answers.{blank_is}
-use Rattle.scan.specs.Scan.{is_blank, leading}
-use Rattle.scan.proofs.Words.{leading_end, leading_more, leading_stops}
+use Rattle.scan.proofs.Words.{leading_is}
 use Rattle.scan.proofs.skip.Goals as goal
 
--- the test of a byte is a comparison of truth values
-module _ {r : Bool} (asked : Bool) (s : List ℕ) (i : ℕ) (h : i < length s) (e : r ≡ is_blank (get_or s i 0)) where
-  test_is : blank_is asked (get_or s i 0) ≡ beq r asked
-  test_is = rw e (go asked (is_blank (get_or s i 0)))
-    where
-      go : (k x : Bool) → cond k x (not x) ≡ beq x k
-      go true true = refl
-      go true false = refl
-      go false true = refl
-      go false false = refl
+-- what is left of a text, nothing past its end
+rest_is : (s : List ℕ) (at : ℕ) (o : Option (Bor (List ℕ))) (d r : Bor (List ℕ)) → PartBy (λ (x : Bor (List ℕ)). x.now) s at (length s) o → d.now ≡ [] → r ≡ unwrap_or o d →
+    r.now ≡ drop at s
+rest_is s at None d r h e q = ap (λ (x : Bor (List ℕ)). x.now) q ∙ e ∙ sym (drop_of_length-le s (⊎_elim (λ l. omega arith) (λ l. omega arith) h.0))
+rest_is s at (Some x) d r h e q = ap (λ (x : Bor (List ℕ)). x.now) q ∙ h.0.2 ∙ between_to_end s at (length s) (omega arith)
 
-  stops : not (beq r asked) ≡ true → leading (blank_is asked) (drop i s) ≡ 0
-  stops t = leading_stops (blank_is asked) s i h (test_is ∙ not-true _ t)
-
-  more : not (beq r asked) ≡ false → leading (blank_is asked) (drop i s) ≡ 1 + leading (blank_is asked) (drop (i + 1) s)
-  more t = leading_more (blank_is asked) s i h (test_is ∙ not-false _ t)
-
-pub returns-then-is_blank-blanks : goal.returns-then-is_blank-blanks
-returns-then-is_blank-blanks c =
-    let a = c.args in
-    omega (arith, c.loop-i.invariant, stops a.blanks a.text.now c.loop-i.i c.loop-i-test.true c.is_blank.ensures c.if-is_blank-blanks.true)
-
-pub loop-i-preserved : goal.loop-i-preserved
-loop-i-preserved c =
-    let a = c.args in
-    omega (arith, c.loop-i.invariant, more a.blanks a.text.now c.loop-i.i c.loop-i-test.true c.is_blank.ensures c.if-is_blank-blanks.false)
+test_is : (asked r : Bool) → beq r asked ≡ cond asked r (not r)
+test_is true true = refl
+test_is true false = refl
+test_is false true = refl
+test_is false false = refl
 
 pub returns : goal.returns
-returns c = omega (arith, c.loop-i.invariant, leading_end (blank_is c.args.blanks) c.args.text.now c.loop-i.i c.loop-i-test.false)
+returns c =
+    let a = c.args in
+    let test = blank_is a.blanks in
+    let s = drop a.at a.text.now in
+    let rest = rest_is a.text.now a.at c.get.result _ c.unwrap_or-rest.result c.get.ensures.lookup refl c.unwrap_or-rest.ensures in
+    ap (λ n. a.at + n)
+    (count_from_yields_List c.take_while.result c.count.result c.count.ensures.ran (YieldsList-from_take_while _ test (YieldsList-from_slice s (cc rest)) c.take_while.ensures.closure c.take_while.ensures.done (λ x b q k. search (rules, tests, test_is)))
+    ∙ length-prefix_len test s ∙ sym (leading_is test s))

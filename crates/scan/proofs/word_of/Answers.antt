@@ -1,33 +1,32 @@
 -- The value is within the limit, so that with its sign it has 16 bits.
-use Rattle.std.proofs.Common.{◌≡◌, ap, List, ℕ, ◌-◌, pos, neg_ℤ, length, get_or, drop, length-drop, arith}
-use Rattle.std.proofs.Math.Option.{Option, map}
-use borrow.Author.Tests.{eq-eqb, ne_eqb}
-use lib.Seq.{take_all}
+use Rattle.std.proofs.Common.{◌≡◌, refl, ap, sym, ◌∙◌, Bool, true, false, ◌&&◌, eqb, List, [], ◌∷◌, ℕ, pos, get_or, take, Some, arith}
+use lib.Pointwise.{pointwise}
 use mir.Syntax.{w16}
 use mir.ValLaws.{to_z_pos}
 use Rattle.scan.specs.Scan.{natural, most, most_negative, integer_of, word_of}
 use Rattle.scan.proofs.Words.{natural_limit}
 use Rattle.scan.proofs.word_of.Goals as goal
 
--- the digits after a minus sign, and the whole word
-module _ (w : List ℕ) {o : Option ℕ} where
-  negative : get_or w 0 0 ≡ 45 → o ≡ natural most_negative (drop 1 w) → map (λ v. neg_ℤ (pos v)) o ≡ integer_of w
-  negative m e = rw (e, eq-eqb (get_or w 0 0) 45 m)
+no_minus : (w : List ℕ) → pointwise eqb (take 1 w) (45 ∷ []) ≡ false → eqb (get_or w 0 0) 45 ≡ false
+no_minus [] e = refl
+no_minus (b ∷ w) e = go (eqb b 45) e
+  where
+    go : (t : Bool) → (t && true) ≡ false → t ≡ false
+    go true h = h
+    go false h = refl
 
-  plain : (get_or w 0 0 ≡ 45 → ⊥) → o ≡ natural most w → map pos o ≡ integer_of w
-  plain m e = rw (e, ne_eqb (get_or w 0 0) 45 m)
+plain : (w : List ℕ) (u : ℕ) → eqb (get_or w 0 0) 45 ≡ false → Some u ≡ natural most w → Some (pos u) ≡ integer_of w
+plain w u m e = rw (m, ← e)
 
-pub negated-requires : goal.negated-requires
-negated-requires c =
+pub negated-number-requires : goal.negated-number-requires
+negated-number-requires c = natural_limit most_negative _ _ (sym c.in_ok-ok_or-in-Some.ensures.ok_part ∙ c.value_of.ensures)
+
+pub overflow_cast-number : goal.overflow_cast-number
+overflow_cast-number c = record { sfits = omega (arith, natural_limit most _ _ (sym c.in_ok-number-in-None.ensures.ok_part ∙ c.value_of-in-None.ensures)) }
+
+pub returns-in_ok-number-in-None : goal.returns-in_ok-number-in-None
+returns-in_ok-number-in-None c =
+    let v = c.in_ok-number-in-None.field-0 in
     let w = c.args.word.now in
-    natural_limit most_negative (drop 1 w) c.in-Value.value (rw (take_all (length w - 1) (drop 1 w) (omega (arith, length-drop 1 w))) at c.in-Value.ensures)
-
-pub overflow_cast-result : goal.overflow_cast-result
-overflow_cast-result c = record { sfits = omega (arith, natural_limit most c.args.word.now c.in-Value-value_of.value c.in-Value-value_of.ensures) }
-
-pub returns-in-Value-value_of : goal.returns-in-Value-value_of
-returns-in-Value-value_of c =
-    let a = c.args in
-    let v = c.in-Value-value_of.value in
-    rw (to_z_pos w16 v (omega (arith, natural_limit most a.word.now v c.in-Value-value_of.ensures)))
-    (ap (word_of a.start a.end) (plain a.word.now c.if-word-eq45.false c.in-Value-value_of.ensures))
+    let e : Some v ≡ natural most w = sym c.in_ok-number-in-None.ensures.ok_part ∙ c.value_of-in-None.ensures in
+    rw (to_z_pos w16 v (omega (arith, natural_limit most w v e))) (ap (word_of c.args.start c.args.end) (plain w v (no_minus w c.in-None.ensures.cases) e))

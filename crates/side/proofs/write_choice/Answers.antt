@@ -1,7 +1,7 @@
 -- `write_choice`: by the laws of Runs.
 use Rattle.std.proofs.Common.{◌≡◌, false, List, map, ℕ, ◌+◌, ◌<◌, length, get_or, ap, sym, arith, ◌∙◌}
 use lib.ListN.{length-map, get_or-map}
-use Rattle.general.specs.Booleans.{bit}
+use Rattle.general.specs.Booleans.{bit, byte_bit}
 use Rattle.general.specs.Lists.{get_or_from}
 use Rattle.general.specs.Runs.{turned, written}
 use Rattle.literal.specs.Literal.{literal_at}
@@ -10,7 +10,7 @@ use Rattle.theory.specs.Search.{only_constant, choice_of}
 use Rattle.theory.specs.State.{State}
 use Rattle.theory.proofs.Leaves.{choice_long}
 use Rattle.state.proofs.Values.{state_of_inside}
-use Rattle.tally.specs.Tally.{tally_of, state_in, value_in}
+use Rattle.tally.specs.Tally.{state_in, value_in}
 use Rattle.side.proofs.write_choice.Goals as goal
 
 abbrev plan : ℕ → State → List ℕ
@@ -31,9 +31,9 @@ loop-i-preserved c =
     let a = c.args in
     let h = c.loop-i-test.true in
     let e : literal_at (value_in a.state.now (c.loop-i.i + 1)) ≡ state_in a.state.now (c.loop-i.i + 1) =
-    sym (state_of_inside (tally_of a.state.now).values (c.loop-i.i + 1) (omega (arith, h, c.requires.n_le_max_variables))) in
-    turned _ _ _ _ (long _ _) _ _ c.loop-i.invariant c.requires.n_in_bounds h c.chosen.result 0
-    (c.chosen.ensures ∙ ap (λ x. bit (holds only_constant x)) (c.of_code.ensures ∙ ap literal_at c.value_of.ensures ∙ e) ∙ at a.n (state_in a.state.now) c.loop-i.i h)
+    sym (state_of_inside a.state.now.values (c.loop-i.i + 1) (omega (arith, h, c.requires.n_le_max_variables))) in
+    turned _ _ _ _ (long _ _) _ _ c.loop-i.invariant c.requires.n_in_bounds h _ 0
+    (byte_bit c.chosen.result ∙ ap bit (c.chosen.ensures ∙ ap (holds only_constant) (c.of_code.ensures ∙ ap literal_at c.value_of.ensures ∙ e)) ∙ at a.n (state_in a.state.now) c.loop-i.i h)
 
 pub returns : goal.returns
 returns c = written _ _ _ _ (long _ _) _ _ c.loop-i.invariant c.loop-i-test.false

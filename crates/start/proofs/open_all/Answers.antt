@@ -1,19 +1,20 @@
--- One more variable is open and alone in its class.
-use Rattle.std.proofs.Common.{◌≡◌, ap, ◌∙◌, arith}
+-- What is made at each index.
+use Rattle.std.proofs.Common.{rules, ◌≡◌, ◌<◌, ◌*◌, ℕ, arith, get_or}
 use Rattle.literal.specs.Literal.{variables}
-use Rattle.tally.specs.Tally.{with_link}
-use Rattle.start.proofs.Opening.{open_begins, open_goes}
 use Rattle.start.proofs.open_all.Goals as goal
+use Rattle.start.proofs.open_all.Goals.{After-from_fn-2}
 
-pub loop-p-init : goal.loop-p-init
-loop-p-init c = open_begins c.args.state.now c.requires
+values : (c : After-from_fn-2) (p : ℕ) → p < variables → get_or c.from_fn.result p 0 ≡ 2 * p
+values c p h = let w = c.from_fn.ensures.items.at p 0 (omega arith) in let k = w.2 in search rules
 
-pub loop-p-preserved : goal.loop-p-preserved
-loop-p-preserved c =
-    let l = c.loop-p in rw (c.set_link.ensures ∙ ap (with_link l.p l.p) c.set_value.ensures) (open_goes (omega arith) l.invariant)
+links : (c : After-from_fn-2) (p : ℕ) → p < variables → get_or c.from_fn-2.result p 0 ≡ p
+links c p h = let w = c.from_fn-2.ensures.items.at p 0 (omega arith) in let k = w.2 in search rules
 
 pub returns : goal.returns
-returns c =
-    let l = c.loop-p in
-    let e : l.p ≡ variables = omega arith in
-    rw e at l.invariant
+returns c = record {
+  long_values = search rules;
+  long_links = search rules;
+  long_counts = search rules;
+  values = values (goal.at.returns c).After-from_fn-2;
+  links = links (goal.at.returns c).After-from_fn-2;
+}

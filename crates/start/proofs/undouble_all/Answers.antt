@@ -1,6 +1,6 @@
 -- The rules go on with each variable, to a dead end or to the last.
-use Rattle.std.proofs.Common.{◌≡◌, arith}
-use Rattle.literal.specs.Literal.{variables}
+use Rattle.std.proofs.Common.{rules, ◌≡◌, arith}
+use Rattle.std.specs.Prelude.{Err}
 use Rattle.moves.proofs.Dying.{died_fallen}
 use Rattle.start.proofs.Undoubling.{undoubled_begins, undoubled_on, undoubled_goes}
 use Rattle.start.proofs.undouble_all.Goals as goal
@@ -8,25 +8,16 @@ use Rattle.start.proofs.undouble_all.Goals as goal
 pub loop-r-init : goal.loop-r-init
 loop-r-init c = undoubled_begins c.requires.sound
 
-pub undouble_at-requires : goal.undouble_at-requires
-undouble_at-requires c = record {
-  undoubling = undoubled_on c.requires c.loop-r.invariant;
-  r_nonzero = omega arith;
-  r_le_max_variables = omega arith;
-}
+pub undouble_at-requires-clause-undoubling : goal.undouble_at-requires-clause-undoubling
+undouble_at-requires-clause-undoubling c = undoubled_on c.requires c.loop-r.invariant
 
-pub returns-then-undouble_at : goal.returns-then-undouble_at
-returns-then-undouble_at c =
-    let r = rw c.if-undouble_at.true at c.undouble_at.ensures in
-    (died_fallen c.loop-r.invariant.path r.0, r.1)
+pub returns-in_err-undouble_at : goal.returns-in_err-undouble_at
+returns-in_err-undouble_at c =
+    let e : c.from_residual.result ≡ Err c.in_err-undouble_at.field-0.0 = search rules in
+    let r = rw c.in_err-undouble_at.was at c.undouble_at.ensures in
+    rw e (died_fallen c.loop-r.invariant.path r)
 
 pub loop-r-preserved : goal.loop-r-preserved
 loop-r-preserved c =
-    let r = rw c.if-undouble_at.false at c.undouble_at.ensures in
+    let r = rw c.in_ok-undouble_at.was at c.undouble_at.ensures in
     undoubled_goes c.requires c.loop-r.invariant r.0 r.1 r.2
-
-pub returns : goal.returns
-returns c =
-    let l = c.loop-r in
-    let e : l.r ≡ variables = omega arith in
-    rw e at l.invariant

@@ -1,8 +1,8 @@
-use Rattle.std.proofs.Common.{◌≡◌, ◌-◌, ◌≤◌, length}
+use Rattle.std.proofs.Common.{◌-◌, ◌≤◌, length}
 use Rattle.stream.proofs.read_input.Given as goal
 
-abbrev pub invariant-loop-done : goal.invariant-loop-done
-invariant-loop-done l = (l.done ≤ length l.buf) × (l.end ≤ length l.buf) × (length l.buf ≡ length l.fn.buf)
+abbrev pub invariant-loop-length : goal.invariant-loop-length
+invariant-loop-length l = l.length ≤ length l.buf
 
-abbrev pub decreases-loop-done : goal.decreases-loop-done
-decreases-loop-done l = l.end - l.done
+abbrev pub decreases-loop-length : goal.decreases-loop-length
+decreases-loop-length l = length l.buf - l.length

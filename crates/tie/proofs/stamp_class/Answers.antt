@@ -3,7 +3,7 @@ use Rattle.tie.proofs.Stamping.{stamps_begin, stamps_go, stamps_end}
 use Rattle.tie.proofs.stamp_class.Goals as goal
 
 pub loop-p-init : goal.loop-p-init
-loop-p-init c = stamps_begin c.requires c.link_of-p.result c.link_of-p.ensures
+loop-p-init c = stamps_begin c.requires c.link_of-p.ensures
 
 pub stamp_variable-requires-clause-p_le_max_variables : goal.stamp_variable-requires-clause-p_le_max_variables
 stamp_variable-requires-clause-p_le_max_variables c = along_known c.loop-p.invariant.along
@@ -18,4 +18,4 @@ pub loop-p-smaller : goal.loop-p-smaller
 loop-p-smaller c = along_falls c.loop-p.invariant.along c.if-p-r.false c.link_of-p-in-loop-p.result c.link_of-p-in-loop-p.ensures
 
 pub loop-p-preserved : goal.loop-p-preserved
-loop-p-preserved c = stamps_go c.loop-p.invariant c.stamp_variable.ensures c.if-p-r.false c.link_of-p-in-loop-p.result c.link_of-p-in-loop-p.ensures
+loop-p-preserved c = stamps_go c.loop-p.invariant c.stamp_variable.ensures c.if-p-r.false c.link_of-p-in-loop-p.ensures

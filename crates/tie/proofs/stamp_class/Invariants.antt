@@ -1,5 +1,4 @@
 use Rattle.literal.specs.Literal.{variables}
-use Rattle.tally.specs.Tally.{tally_of}
 use Rattle.tally.specs.Stretch.{far}
 use Rattle.tie.proofs.Stamping.{StampsAlong}
 use Rattle.tie.proofs.stamp_class.Given as goal
@@ -8,4 +7,4 @@ abbrev pub invariant-loop-p : goal.invariant-loop-p
 invariant-loop-p l = StampsAlong l.index l.state l.r l.stamps l.p
 
 abbrev pub decreases-loop-p : goal.decreases-loop-p
-decreases-loop-p l = far (tally_of l.state).links l.r variables l.p
+decreases-loop-p l = far l.state.links l.r variables l.p

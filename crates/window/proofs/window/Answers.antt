@@ -9,11 +9,11 @@ returns-then-receipt-lt-RECEIPT_LENGTH c = rw c.number.ensures (call_short _ _ _
 
 pub write_receipt-requires-clause-place_le_max_strip :
     goal.write_receipt-requires-clause-place_le_max_strip
-write_receipt-requires-clause-place_le_max_strip c = rw c.receipt-written.ensures (answer_place _ _ _ _ _ _ _ c.solve-solved.ensures.call)
+write_receipt-requires-clause-place_le_max_strip c = rw c.searching_receipt-written.ensures (answer_place _ _ _ _ _ _ _ c.solve-solved.ensures.call)
 
 pub returns : goal.returns
 returns c =
-    let stamped = c.receipt-written.ensures in
+    let stamped = c.searching_receipt-written.ensures in
     rw stamped
     (call_written _ _ _ c.args.receipt.now _ _ _ c.solve-solved.ensures.call _ c.if-receipt-lt-RECEIPT_LENGTH.false
     (c.write_receipt.ensures ∙ ap (λ x. over receipt_length (receipt_bytes x) c.args.receipt.now) stamped))

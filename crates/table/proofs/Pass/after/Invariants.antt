@@ -3,5 +3,5 @@ use Rattle.std.proofs.Common.{◌≡◌, drop}
 use Rattle.table.specs.Pass.{after}
 use Rattle.table.proofs.Pass.after.Given as goal
 
-abbrev pub invariant-loop-i : goal.invariant-loop-i
-invariant-loop-i l = after l.pass (drop l.i l.part) ≡ after l.fn.self l.fn.part
+abbrev pub invariant-loop-entry : goal.invariant-loop-entry
+invariant-loop-entry l = after l.pass (drop l.entry-index l.part) ≡ after l.fn.self l.fn.part
