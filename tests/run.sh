@@ -33,6 +33,8 @@ exported() { nm --defined-only "$@" | sed -n 's/^[0-9a-f]* [A-Z] //p' | sort; }
 declared=$(grep -o 'platewright_[a-z_]*(' include/platewright.h | tr -d '(' | sort -u)
 same "the archive" "$(exported -g "$archive")" "$declared"
 same "the shared library" "$(exported -D "$prefix/lib/libplatewright.so")" "$declared"
+# the manual: "The library needs nothing but `memcpy` and `memset`"
+same "what the archive needs" "$(nm -u "$archive" | sed -n 's/^ *U //p' | sort -u | tr '\n' ' ')" "memcpy memset "
 wc -l <<<"$declared"
 
 step "header, from C and from C++"

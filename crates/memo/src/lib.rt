@@ -18,7 +18,7 @@ const SLOT_WORDS: usize = 65536 - 2 * Literal::VARIABLES - 5;
 // The slots, one after another.
 type Slots = [u16; SLOT_WORDS];
 
-#[derive(Drop)]
+#[derive(Clone, Copy)]
 pub struct Memory {
     // The weights of the hash.
     pub weights: [u16; Literal::VARIABLES],

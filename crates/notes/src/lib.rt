@@ -38,7 +38,7 @@ pub const FAR: usize = 2 * Literal::MAX_LITERALS;
 const MAX_GATHERED: usize = 3 * Literal::MAX_LITERALS;
 
 // The clauses to look at, the blocks, and the clauses that were gathered; the ends of the first two.
-#[derive(Drop)]
+#[derive(Clone, Copy)]
 pub struct Notes {
     pub todo: [u16; Literal::MAX_TABLE],
     pub todo_end: usize,

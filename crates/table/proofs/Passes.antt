@@ -16,7 +16,6 @@ use Rattle.general.specs.Booleans.{bit}
 use Rattle.general.specs.Search.{first_place}
 use Rattle.literal.specs.Literal.{clause_number, max_clauses, max_literals}
 use Rattle.receipt.specs.declared.Fault.TheVariants.{UnknownVariable}
-use Rattle.std.specs.Prelude.{Ok}
 use Rattle.receipt.specs.Receipt.{Checked, pass}
 use Rattle.theory.specs.Table.{zeros, nonzeros, ends_open, refused, is_unknown, table_unknown, check, Accepted}
 use Rattle.theory.proofs.Tables.{zeros_append, nonzeros_append, length_elements, accepted_sizes}

@@ -96,7 +96,11 @@ impl Pass {
     fn next(self, size: u16) -> Pass
         ensures { result ≡ next self size }
     {
-        let unknown = self.unknown.or(self.unknown_next(size));
+        // Made anew from its parts: a copy of the option would go through memory at each element.
+        let unknown = match self.unknown {
+            Some(Unknown { place, clause }) => Some(Unknown { place, clause }),
+            None => self.unknown_next(size),
+        };
         if size == 0 {
             Pass {
                 clauses: one_more(self.clauses, ENOUGH_CLAUSES),

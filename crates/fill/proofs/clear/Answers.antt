@@ -1,5 +1,5 @@
 -- One element more of the part is cleared.
-use Rattle.std.proofs.Common.{◌≡◌, sym, ◌∙◌, ℕ, ◌+◌, ◌<◌, List, [], ◌∷◌, ◌++◌, append_assoc, length, get_or, set, replicate, drop, arith}
+use Rattle.std.proofs.Common.{◌≡◌, sym, ℕ, ◌+◌, ◌<◌, List, [], ◌∷◌, ◌++◌, append_assoc, length, get_or, set, replicate, drop}
 use Rattle.std.proofs.lemmas.List.{length-replicate, replicate_more, drop_more, set_at}
 use Rattle.fill.proofs.clear.Goals as goal
 
