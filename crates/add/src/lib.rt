@@ -30,6 +30,7 @@ fn unknown_in(at: usize, clause: ClauseNumber, n: usize, group: &[i16]) -> Resul
 }
 
 // "Add: 12, then 1 to 5 on the used part, 2 and 3 with the group added .., 5 on the list": all but the room.
+#[tactic(auto, unfolding(theory::specs::Calls::check_group))]
 fn check_group(buffer: &[i16], used: usize, n: usize, group: &[i16]) -> Result<(), Refusal>
     ensures { result ≡ check_group used n group.now buffer.now }
 {

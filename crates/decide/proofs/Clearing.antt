@@ -1,6 +1,6 @@
 -- Clearing a clause: the walk over its literals.
 use mathlib.Core.Path.{◌≡◌, ap, sym, ◌∙◌}
-use mathlib.Core.Bool.{true, false}
+use mathlib.Core.Bool.{true, false, Bool}
 use mathlib.Core.Logic.{◌⊎◌, inl, inr}
 use mathlib.Core.List.{List, Memᴰ}
 use Prim.Native.Nat.{ℕ, ◌+◌, ◌/◌, ◌≤◌, ◌<◌}
@@ -20,12 +20,21 @@ use Rattle.occurrences.proofs.Slices.{literal_known, literal_member, member_lite
 use Rattle.tally.specs.Tally.{state_in, value_in}
 use Rattle.moves.specs.Sound.{Sound}
 use Rattle.moves.specs.Moving.{Moved}
-use Rattle.moves.specs.Deciding.{Clearing, cleared, clears, Cleared}
+use Rattle.moves.specs.Deciding.{Clearing, cleared, clears, Cleared, Decidable, Decided}
 use Rattle.moves.proofs.Moves.{moved_refl, moved_trans}
 use Rattle.decide.specs.Clearing.{Standing, Gone, Spared, Passed}
 use Rattle.occurrences.specs.declared.Index.{Index}
 use Rattle.tally.specs.declared.Tally.{Tally}
 use Rattle.notes.specs.declared.Notes.{Notes}
+
+-- one literal
+pub asks_decide : {ix : Index} {st : Tally} {wk : Notes} {x : ℕ} → Standing ix st wk x → 1 < x → Decidable ix st wk x
+asks_decide s o = record { sound = s.sound; opened = o; below = s.below; root = s.root o }
+
+pub passed : {ix : Index} {st : Tally} {wk : Notes} {x : ℕ} → Standing ix st wk x → (w : ℕ) (st' : Tally) (wk' : Notes) → 1 < x → (x / 2 ≡ w → ⊥) → (b : Bool) →
+    Decided ix st wk x st' wk' b → Passed ix st wk x w st' wk' b
+passed s w st' wk' o n true d = (o, n, d)
+passed s w st' wk' o n false d = (d.1, inr (o, n, d.0))
 
 clearing_more : {c : Clause} {w : ℕ} {s u : State} (x : Literal) → Clearing c w s u → Memᴰ x (standing u c) → 0 < var x → (var x ≡ w → ⊥) → Clearing c w s (assign x FALSE u)
 clearing_more x cleared m o n = clears x m o n cleared

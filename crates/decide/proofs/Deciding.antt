@@ -11,7 +11,7 @@ use lib.Dec.{eqb}
 use lib.ListN.{get_or, set, length}
 use Rattle.general.specs.Booleans.{bit}
 use Rattle.general.specs.Bits.{bit_le}
-use Rattle.literal.specs.Literal.{FALSE, var, opposite, code_of, literal_at, max_variables, variables}
+use Rattle.literal.specs.Literal.{FALSE, var, opposite, code_of, literal_at, max_variables, variables, max_table}
 use Rattle.literal.proofs.Codes.{code_of_literal_at, var_at}
 use Rattle.theory.specs.State.{replace, assign}
 use Rattle.theory.proofs.Literals.{of_variable_lem}
@@ -170,6 +170,9 @@ module _ {ix : Index} {st : Tally} {wk : Notes} {x : ℕ} {u : Tally} {m : Notes
       module _ {m' : Notes} (more : Taken ix u m u' m') where
         all : Taken ix st wk u' m'
         all = taken_trans t.taken more
+
+        pub end_low : m'.todo_end ≤ max_table
+        end_low = omega (arith, all.paid, t.asked.sound.todo_room)
 
         module _ (n : ℕ) (next : n ≡ get_or u'.links p 0) where
           link : n ≡ get_or st.links p 0

@@ -22,7 +22,7 @@ use Rattle.moves.specs.Moving.{Moved}
 use Rattle.moves.proofs.Moves.{moved_refl, moved_trans}
 use Rattle.engine.specs.Short.{Unit, Units}
 use Rattle.engine.specs.Ready.{Ready, Rested}
-use Rattle.engine.specs.Turning.{Unitable, Turned}
+use Rattle.engine.specs.Turning.{Unitable, Turned, weight}
 use Rattle.engine.proofs.Along.{within_indexed, opens_along}
 use Rattle.engine.proofs.Shorts.{units_kept, units_past}
 use Rattle.engine.proofs.Turns.{ready_units}
@@ -60,6 +60,10 @@ looking_goes {wk = wk} {at} q before {st'} {wk'} f m n =
       reached = omega (arith, m.went.noting.grows);
     }
 
+pub looking_less : {ix : Index} {st : Tally} {wk : Notes} {at : ℕ} → at < wk.todo_end → {st' : Tally} {wk' : Notes} → Moved ix st wk st' wk' →
+    left ix st' wk' (at + 1) < left ix st wk at
+looking_less before m = omega (arith, m.went.noting.paid, m.went.noting.grows)
+
 pub looking_ends : {ix : Index} {st₀ : Tally} {wk₀ : Notes} {st : Tally} {wk : Notes} {at : ℕ} → Looking ix st₀ wk₀ st wk at → wk.todo_end ≤ at → Units ix st wk wk.todo_end
 looking_ends {ix} {st} {wk} {at} q h = let e : at ≡ wk.todo_end = omega (arith, q.reached) in rw e at q.units
 
@@ -69,6 +73,18 @@ pub record Going (ix : Index) (st₀ st : Tally) (wk : Notes) (twos : ℕ) : Typ
   pub steps : (k : ℕ) × Steps (formula_of ix) (state_in st₀) (state_in st) k
   pub ready : Ready ix st wk wk.todo_end twos
   pub reached : twos ≤ wk.todo_end
+
+pub unitable : {ix : Index} {st : Tally} {wk : Notes} {at next : ℕ} → Ready ix st wk at next → at ≤ wk.todo_end → Unitable ix st wk at
+unitable r h = record { sound = r.sound; well = r.well; units = r.short.units; reached = h }
+
+pub rested_fallen : {ix : Index} {st₀ st st' : Tally} {wk' : Notes} → Falls (formula_of ix) (state_in st₀) (state_in st) → Rested ix st st' wk' → Rested ix st₀ st' wk'
+rested_fallen f r = record {
+  steps = (_, steps_trans (falls_steps f).1 r.steps.1);
+  sound = r.sound;
+  counted = r.counted;
+  distinct = r.distinct;
+  pairs = r.pairs;
+}
 
 -- rules 2 and 3 were tried once
 pub going_begins : {ix : Index} {st₀ : Tally} {wk₀ : Notes} {st : Tally} {wk : Notes} → Ready ix st₀ wk₀ 0 0 →
@@ -83,6 +99,10 @@ module _ {ix : Index} {st₀ st : Tally} {wk : Notes} {twos : ℕ} (q : Going ix
     ready = ready_units t.ready t.grows (omega (arith, t.reached, t.grows)) f m u;
     reached = omega (arith, t.reached, t.grows, m.went.noting.grows);
   }
+
+  pub going_less : {st' : Tally} {wk' : Notes} {next : ℕ} → Turned ix st wk twos st' wk' next → {st'' : Tally} {wk'' : Notes} →
+      Falls (formula_of ix) (state_in st') (state_in st'') × Moved ix st' wk' st'' wk'' × Units ix st'' wk'' wk''.todo_end → weight ix st'' wk'' - next < weight ix st wk - twos
+  going_less t (f, m, u) = omega (arith, t.less, t.reached, t.grows, q.reached, m.went.noting.grows, m.went.noting.paid, m.went.fewer, m.went.blocks_end)
 
   -- nothing is listed: no rule fits
   pub going_ends : wk.todo_end ≤ twos → wk.blocks_end ≡ 0 → Rested ix st₀ st wk

@@ -9,7 +9,7 @@ use native.Mathlib.Decide.{dec_lt}
 use Rattle.general.specs.Counting.{count}
 use Rattle.general.specs.Lists.{from}
 use Rattle.literal.specs.declared.Literal.{Literal}
-use Rattle.literal.specs.Literal.{TRUE, FALSE, var, code_of, max_variables, codes}
+use Rattle.literal.specs.Literal.{TRUE, FALSE, var, code_of, max_variables, codes, max_table}
 use Rattle.literal.proofs.Codes.{var_at, var_code}
 use Rattle.theory.specs.State.{value, stand, standing}
 use Rattle.theory.proofs.Literals.{constant, same_ne}
@@ -29,7 +29,10 @@ legible s = record { index = s.index; exact = s.exact; classes = s.classes }
 
 -- the code of what stands at a place of a clause, where that is open, is of an open root
 module _ {ix : Index} {st : Tally} (k : Legible ix st) (g : ℕ) (inside : g < clause_count ix) (i : ℕ) (begins : start_at ix g ≤ i) (before : i < start_at ix (g + 1) - 1) where
-  code_known : code_at ix i < codes
+  pub place_low : i < max_table
+  place_low = omega (arith, k.index.stops (g + 1) (omega arith))
+
+  pub code_known : code_at ix i < codes
   code_known = (k.index.known g i inside begins before).1
 
   pub open_code : (x : ℕ) → x ≡ code_of (value (state_in st) (written ix i)) → 0 < var (value (state_in st) (written ix i)) → OpenCode st x
@@ -44,7 +47,7 @@ module _ {ix : Index} {st : Tally} (k : Legible ix st) (g : ℕ) (inside : g < c
 
 module _ {ix : Index} {st : Tally} {g i : ℕ} (o : Opens ix st g i) where
   -- where something is open the clause has not ended
-  opens_before : i < start_at ix (g + 1) - 1
+  pub opens_before : i < start_at ix (g + 1) - 1
   unfolding standing count from
   opens_before = elim (dec_lt i (start_at ix (g + 1) - 1)) [
     | yes h ↦ h

@@ -1,9 +1,12 @@
 -- Ready stays ready: by steps that rules ask, when a listed block goes from the list, and by one turn.
 use mathlib.Core.Path.{◌≡◌, refl, subst}
+use mathlib.Core.Bool.{Bool, true, false}
 use mathlib.Core.Logic.{◌⊎◌, inl, inr, ⊎_elim}
 use Prim.Native.Nat.{ℕ, ◌+◌, ◌-◌, ◌≤◌, ◌<◌}
 use native.Mathlib.Decide.{ℕ_discrete as dec_eq}
 use native.Mathlib.Omega.{arith}
+use borrow.Author.Tests.{ltb-true, ltb-false}
+use lib.Dec.{ltb}
 use lib.ListN.{get_or}
 use Rattle.literal.specs.Literal.{max_variables}
 use Rattle.theory.specs.Formula.{Clause, Within}
@@ -17,14 +20,14 @@ use Rattle.tally.specs.Tally.{state_in, count_in}
 use Rattle.notes.specs.Notes.{block_at, with_blocks_end}
 use Rattle.moves.specs.Sound.{Sound}
 use Rattle.moves.specs.Moving.{Noting, Moved}
-use Rattle.moves.specs.Listing.{ListsIn, Listed, Blocks}
+use Rattle.moves.specs.Listing.{ListsIn, Listed, Blocks, SpansIn}
 use Rattle.moves.proofs.Moves.{noting_trans}
 use Rattle.moves.proofs.Listed.{carried_fell, blocks_fell, listed_carried}
 use Rattle.engine.specs.Short.{Units, Resting}
 use Rattle.engine.specs.Ready.{Ready}
-use Rattle.meet.specs.Looking.{LookedAt}
-use Rattle.tie.specs.Tying.{Tied}
-use Rattle.engine.specs.Turning.{Turned}
+use Rattle.meet.specs.Looking.{LookedAt, Lookable}
+use Rattle.tie.specs.Tying.{Tied, Tying, Tieable}
+use Rattle.engine.specs.Turning.{Turned, Left}
 use Rattle.engine.proofs.Along.{within_indexed, opens_along}
 use Rattle.engine.proofs.Shorts.{short_past, short_kept}
 use Rattle.occurrences.specs.declared.Index.{Index}
@@ -86,11 +89,36 @@ module _ (wk : Notes) (st : Tally) (some : 0 < wk.blocks_end) where
     won = λ g h a b. absurd (omega arith);
   }
 
+  -- what is left can be looked at; it was of two stretches or signs
+  module _ {ix : Index} {at next : ℕ} (ready : Ready ix st wk at next) where
+    pub delisted_lookable : Lookable ix st (delisted wk)
+    delisted_lookable = record {
+      sound = record {
+        index = ready.sound.index;
+        exact = ready.sound.exact;
+        linked = ready.sound.linked;
+        classes = ready.sound.classes;
+        todo_room = ready.sound.todo_room;
+        blocks_room = omega (arith, ready.sound.blocks_room);
+        todo_inside = ready.sound.todo_inside;
+      };
+      distinct = ready.distinct;
+      blocks = record { at = λ i h. ready.blocks.at i (omega arith) };
+    }
+
+    pub delisted_spans : SpansIn st (block_at wk (wk.blocks_end - 1))
+    delisted_spans = ready.blocks.at (wk.blocks_end - 1) (omega arith)
+
   -- its pairs were looked at
   module _ {ix : Index} {at next : ℕ} (ready : Ready ix st wk at next) (early : at ≤ wk.todo_end) (before : next ≤ wk.todo_end) where
     pub ready_looked : {st' : Tally} {wk' : Notes} → LookedAt (ListsIn st (block_at wk (wk.blocks_end - 1))) ix st (delisted wk) st' wk' → Ready ix st' wk' at next
     ready_looked l = ready_steps ready early before l.steps.1 l.lookable.sound (noting_trans noting_delisted l.noting) l.lookable.distinct l.lookable.blocks
         (paired_weaken (λ g h. ⊎_elim (l.kept g h) (λ k. k)) (paired_looked l.looked (paired_weaken listed_one ready.pairs)))
+
+-- what a tie asks ----------------------------------------------------------------------------------------------------
+
+pub tieable : {ix : Index} {st : Tally} {wk : Notes} {at next low high : ℕ} → Ready ix st wk at next → Tying ix st low high → Tieable ix st wk low high
+tieable r a = record { tying = a; sound = r.sound; distinct = r.distinct; blocks = r.blocks }
 
 -- one turn -------------------------------------------------------------------------------------------------------------
 
@@ -126,3 +154,11 @@ module _ {ix : Index} {st : Tally} {wk : Notes} {twos : ℕ} (ready : Ready ix s
       reached = before;
       less = omega (arith, l.noting.paid, l.paid, l.fewer);
     }
+
+-- at the end of the noted clauses what is left is a block
+pub left_last : (wk : Notes) (twos n : ℕ) → wk.todo_end ≤ twos → n ≡ wk.blocks_end → Left wk twos (ltb 0 n)
+left_last wk twos n h e = go (ltb 0 n) refl
+  where
+    go : (b : Bool) → ltb 0 n ≡ b → Left wk twos b
+    go true q = inr (omega (arith, ltb-true 0 n q))
+    go false q = (h, omega (arith, ltb-false 0 n q))

@@ -17,7 +17,7 @@ use Rattle.tally.specs.Tally.{count_in}
 use Rattle.notes.specs.Notes.{with_gathered, Gathered, max_gathered}
 use Rattle.gather.specs.declared.Sign.{Sign}
 use Rattle.gather.specs.Gathering.{is_wide, is_signed, Beside, Collecting, Collected}
-use Rattle.gather.proofs.Waits.{Waits, waits_goes, waits_ends}
+use Rattle.gather.proofs.Waits.{Waits, waits_goes, waits_ends, waits_begins}
 use Rattle.occurrences.specs.declared.Index.{Index}
 use Rattle.tally.specs.declared.Tally.{Tally}
 use Rattle.notes.specs.declared.Notes.{Notes}
@@ -64,6 +64,18 @@ pub record Collects (ix : Index) (st : Tally) (wk : Notes) (start : ℕ) (s : Si
   pub kept : (i : ℕ) → i < start → get_or wk'.gathered i 0 ≡ get_or wk.gathered i 0
   pub beyond : (i : ℕ) → start + length os ≤ i → get_or wk'.gathered i 0 ≡ get_or wk.gathered i 0
   pub inside : (i : ℕ) → start ≤ i → i < end → get_or wk'.gathered i 0 < clause_count ix
+
+pub collects_begins : {ix : Index} {st : Tally} {wk : Notes} {start : ℕ} {s : Sign} {os : List ℕ} → Collects ix st wk start s os wk start 0
+collects_begins = record {
+  waits = waits_begins;
+  reached = omega arith;
+  grew = omega arith;
+  paid = omega arith;
+  beside = beside_refl;
+  kept = λ i h. refl;
+  beyond = λ i h. refl;
+  inside = λ i h k. absurd (omega arith);
+}
 
 module _ {ix : Index} {wk : Notes} {p start : ℕ} (c : Collecting ix wk p start) {os : List ℕ} (are : os ≡ occurrences ix p) {st : Tally} {s : Sign} {wk' : Notes} {end j : ℕ}
     (o : Collects ix st wk start s os wk' end j) where

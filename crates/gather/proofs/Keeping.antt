@@ -7,11 +7,15 @@ use native.Mathlib.Omega.{arith}
 use lib.ListN.{get_or, length}
 use Rattle.notes.specs.Notes.{with_gathered, max_gathered}
 use Rattle.gather.specs.Gathering.{KeptFrom}
-use Rattle.gather.proofs.Collects.{put_other, put_there, put_beside}
+use Rattle.gather.proofs.Collects.{put_other, put_there, put_beside, beside_refl}
 use Rattle.notes.specs.declared.Notes.{Notes}
 
 abbrev gathered_in : Notes → ℕ → ℕ
 gathered_in wk i = get_or wk.gathered i 0
+
+-- where none was looked at, all are kept
+pub kept_all : {Of : ℕ → Type 0} {wk : Notes} {start stop : ℕ} → start ≤ stop → KeptFrom Of wk start stop wk stop
+kept_all h = record { grew = h; fewer = omega arith; beside = beside_refl; beyond = λ i b. refl; only = λ i a b. (i, a, b, refl); all = λ g d k. k }
 
 -- fewer are asked for
 pub kept_fewer : {Of To : ℕ → Type 0} {wk : Notes} {start stop : ℕ} {wk' : Notes} {end : ℕ} → ((g : ℕ) → To g → Of g) →

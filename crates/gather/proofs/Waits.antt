@@ -34,6 +34,9 @@ here_stands ix p os are j h =
 pub record Waits (ix : Index) (st : Tally) (Of Done : ℕ → Type 0) (os : List ℕ) (j : ℕ) : Type 0 where
   pub done : (g : ℕ) → WideIn ix st g → (k : ℕ) → k < 2 → Of k → 0 < times (2 * g + k) os → Done g ⊎ (0 < times (2 * g + k) (drop j os))
 
+pub waits_begins : {ix : Index} {st : Tally} {Of Done : ℕ → Type 0} {os : List ℕ} → Waits ix st Of Done os 0
+waits_begins = record { done = λ g w k h s i. inr i }
+
 module _ {ix : Index} {st : Tally} {Of Done : ℕ → Type 0} {os : List ℕ} {j : ℕ} (o : Waits ix st Of Done os j) where
   pub waits_goes : j < length os → {Now : ℕ → Type 0} → ((g : ℕ) → Done g → Now g) → (WideIn ix st (get_or os j 0 / 2) → Of (get_or os j 0 % 2) → Now (get_or os j 0 / 2)) →
       Waits ix st Of Now os (j + 1)

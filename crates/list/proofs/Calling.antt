@@ -27,6 +27,7 @@ use Rattle.list.specs.declared.Ending.TheVariants as ending
 use Rattle.list.specs.declared.Walk.{Walk}
 use Rattle.list.specs.Call.{called}
 use Rattle.list.specs.Walk.{Wrote, EndsIn, Walked, top, kept, kept_rows, ended_as, answer_of}
+use Rattle.list.proofs.Rows.{walked_rows}
 
 -- the rows that count -----------------------------------------------------------------------------------------------
 
@@ -44,6 +45,16 @@ module _ (n k m : ℕ) (h : m ≤ k) where
 finished_as : (l : List (Found Choice)) → cond (eqb (length l) 0) NoLayout LaidOut ≡ finished l
 finished_as [] = refl
 finished_as (a ∷ l) = rw (ne_eqb (suc (length l)) 0 (λ e. omega arith))
+
+-- no more rows count than were asked for
+module _ (n k b : ℕ) (r : Run Choice) (old mid : List ℕ) (w : Walk) where
+  pub kept_most : Walked (top n k b) r old mid w → kept_rows w ≤ k
+  kept_most h = go w.ending (omega (arith, walked_rows (top n k b) r old mid w h))
+    where
+      go : (e : Ending) → w.written ≤ k → kept e w.written ≤ k
+      go ending.All h = h
+      go ending.More h = h
+      go ending.Stopped h = omega arith
 
 -- the walk, and the zeros after it
 module _ (n k b : ℕ) (r : Run Choice) (old mid : List ℕ) (w : Walk) (new : List ℕ) where

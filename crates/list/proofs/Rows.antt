@@ -39,7 +39,7 @@ same_run q e l old new w h = rw q h
 pub same_walked : {r r' : Run Choice} → r ≡ r' → (l : Level) (old new : List ℕ) (w : Walk) → Walked l r' old new w → Walked l r old new w
 same_walked q l old new w = same_run q w.ending l old new w
 
--- a walk writes no more rows than are left
+-- a walk writes no more rows than are left, and makes no more splits than it may
 module _ (l : Level) (r : Run Choice) (old new : List ℕ) (w : Walk) where
   pub walked_rows : Walked l r old new w → w.written ≤ room l
   walked_rows h = go w.ending h
@@ -48,6 +48,14 @@ module _ (l : Level) (r : Run Choice) (old new : List ℕ) (w : Walk) where
       go All h = omega (arith, h.0, h.1.rows_is)
       go More h = omega (arith, h.1.rows_is)
       go Stopped h = h.few
+
+  pub walked_count : Walked l r old new w → w.count ≤ l.left
+  walked_count h = go w.ending h
+    where
+      go : (e : Ending) → EndsIn e l r old new w → w.count ≤ l.left
+      go All h = omega (arith, h.1.enough, h.1.count)
+      go More h = omega (arith, h.1.enough, h.1.count)
+      go Stopped h = omega (arith, h.count)
 
 -- walks without a split ------------------------------------------------------------------------------------------
 

@@ -15,7 +15,7 @@ use Rattle.list.specs.declared.Ending.TheVariants.{All}
 use Rattle.list.specs.declared.Level.{Level}
 use Rattle.list.specs.declared.Walk.{Walk}
 use Rattle.list.specs.Walk.{Splittable, Walked, under, counted, tree_run, run_from, split_run}
-use Rattle.list.proofs.Rows.{same_walked, walked_rows, first_side, second_side}
+use Rattle.list.proofs.Rows.{same_walked, walked_rows, first_side, second_side, walked_count}
 use Rattle.list.proofs.Sides.{side_run}
 use Rattle.occurrences.specs.declared.Index.{Index}
 use Rattle.tally.specs.declared.Tally.{Tally}
@@ -53,7 +53,10 @@ module _ {ix : Index} {st : Tally} {p : ℕ} {l : Level} {bytes : List ℕ} (k :
     abbrev lower : Level
     lower = under p (l.left - 1) l.row l
 
-    -- it is within the rows that are left
+    -- it is within its allowance, and within the rows that are left
+    pub first_count : w.count + 1 ≤ l.left
+    first_count = omega (arith, walked_count lower (tree_run lower f out) bytes mid w h)
+
     pub first_rows : l.row + w.written ≤ l.wanted
     first_rows = omega (arith, walked_rows lower (tree_run lower f out) bytes mid w h, k.lasting.rowable.next)
 
@@ -61,6 +64,16 @@ module _ {ix : Index} {st : Tally} {p : ℕ} {l : Level} {bytes : List ℕ} (k :
     first_whole other = first_side l p walks out taken some_left bytes mid w h other
 
     module _ (new : List ℕ) (v : Walk) (i : Walked (under p (l.left - (1 + w.count)) (l.row + w.written) l) (tree_run (under p (l.left - (1 + w.count)) (l.row + w.written) l) f taken) mid new v) where
+      abbrev rest : Level
+      rest = under p (l.left - (1 + w.count)) (l.row + w.written) l
+
+      -- both are
+      pub both_count : 1 + w.count + v.count ≤ l.left
+      both_count = omega (arith, first_count, walked_count rest (tree_run rest f taken) mid new v i)
+
+      pub both_rows : w.written + v.written ≤ l.wanted
+      both_rows = omega (arith, first_rows, walked_rows rest (tree_run rest f taken) mid new v i)
+
       -- what both sides come to, where the first has found all
       pub both_whole : w.ending ≡ All → Walked l (split_run p l f (state_in st)) bytes new (counted w.written (1 + w.count) v)
       both_whole all = second_side l p walks out taken some_left bytes mid w h k.lasting.rowable.next all new v i

@@ -30,6 +30,10 @@ pub record Compares (ix : Index) (st : Tally) (wk : Notes) (g a b : ℕ) (marks 
   pub from : a ≤ i
   pub apart : (j : ℕ) → a ≤ j → j < i → Unmet ix st wk g j
 
+pub compares_begins : {ix : Index} {st : Tally} {wk : Notes} {g a b : ℕ} {marks : List ℕ} → Comparing ix st wk g a b → Readable ix st g →
+    Marked (standing (state_in st) (clause_of ix g)) marks → Compares ix st wk g a b marks a
+compares_begins c r m = record { comparing = c; readable = r; marked = m; from = omega arith; apart = λ j x y. absurd (omega arith) }
+
 module _ {ix : Index} {st : Tally} {wk : Notes} {g a b : ℕ} {marks : List ℕ} {i : ℕ} (o : Compares ix st wk g a b marks i) where
   module _ (more : i < b) {h : ℕ} (next : h ≡ number_at wk i) where
     inside : h < clause_count ix
@@ -82,3 +86,6 @@ module _ {ix : Index} {st : Tally} {wk : Notes} {g a b : ℕ} {marks : List ℕ}
           meets_tying ix st o.comparing.lookable.sound.index o.comparing.lookable.sound.classes g h o.comparing.inside inside
               (compares_asks.distinct v) low high met.0 met.1 met.2.0 met.3.0 m,
         )
+
+  pub compares_ends : b ≤ i → FacedBy ix st wk g a b None
+  compares_ends e j x y = o.apart j x (omega arith)

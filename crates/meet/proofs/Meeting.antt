@@ -3,7 +3,7 @@ use mathlib.Core.Path.{◌≡◌, refl, ap, sym, ◌∙◌}
 use mathlib.Core.Bool.{true, false, cond}
 use mathlib.Core.Logic.{◌⊎◌, inl, inr, ◌≢◌, ⊎_elim}
 use mathlib.Core.List.{List, [], ◌∷◌, Memᴰ}
-use Prim.Native.Nat.{ℕ, ◌/◌, ◌<◌}
+use Prim.Native.Nat.{ℕ, ◌/◌, ◌<◌, ◌≤◌}
 use native.Mathlib.Omega.{arith}
 use borrow.Author.Tests.{eqb-true, eqb-false}
 use lib.Dec.{eqb}
@@ -17,8 +17,9 @@ use Rattle.theory.specs.State.{State, value, standing}
 use Rattle.theory.proofs.Clauses.{mem_standing}
 use Rattle.theory.proofs.Asks.{standing_no_false}
 use Rattle.theory.proofs.Counts.{mentions, Distinct, Wide}
+use Rattle.meet.specs.declared.Met.TheVariants.{Common, Crossed}
 use Rattle.meet.specs.Meeting.{Like, Across, MetBy}
-use Rattle.std.specs.Prelude.{None}
+use Rattle.std.specs.Prelude.{None, Some}
 use Rattle.meet.proofs.Clauses.{standing_cases, not_standing, mentions_rest, mentions_first, wide_open, code_high}
 
 -- x is the code of a literal of d that is like its mark, or across it
@@ -201,6 +202,9 @@ module _ (s : State) (c : Clause) (w : Wide (standing s c)) (marks : List ℕ) w
 
   -- at the end
   module _ {common crossing again : ℕ} (o : Meeting s c [] marks common crossing again) where
+    crosses : crossing ≢ 0 → Crossing (standing s c) marks crossing
+    crosses n = ⊎_elim (λ z. absurd (n z.0)) (λ k. k.0) o.crossing_is
+
     -- all that crosses is the last that did
     one_crosses : again ≡ 0 → (y : Literal) → Memᴰ y (standing s c) → Across marks y → code_of y ≡ crossing
     one_crosses z y m i = ⊎_elim (λ q. q) (λ n. absurd (not_standing s y n)) (o.no_again z y m i)
@@ -215,3 +219,20 @@ module _ (s : State) (c : Clause) (w : Wide (standing s c)) (marks : List ℕ) w
         (λ k. absurd (not_standing s x (o.no_common z x mx k)))
         (λ k. ap var (code_of_injective x y (one_crosses a x mx k ∙ sym (one_crosses a y my j))))
         i
+
+    pub has_common : crossing ≢ 0 → common ≢ 0 → MetBy (standing s c) marks (Some (Common common))
+    has_common n m = ⊎_elim
+        (λ z. absurd (m z))
+        (λ (k : Shared (standing s c) marks common). let q = crosses n in (k.opened, k.stands, k.like, (literal_at crossing, q.stands, q.across)))
+        o.common_is
+
+    two_cross : crossing ≢ 0 → again ≢ 0 → Crossing (standing s c) marks crossing × Crossing (standing s c) marks again × (again / 2 ≢ crossing / 2)
+    two_cross n m = ⊎_elim (λ z. absurd (m z)) (λ k. (crosses n, k.0, k.1)) o.again_is
+
+    pub crossed_up : crossing ≢ 0 → again ≢ 0 → crossing < again → MetBy (standing s c) marks (Some (Crossed crossing again))
+    crossed_up n m l = let k = two_cross n m in
+        (k.0.opened, omega (arith, k.2), (k.0.stands, k.0.across), (k.1.stands, k.1.across))
+
+    pub crossed_down : crossing ≢ 0 → again ≢ 0 → again ≤ crossing → MetBy (standing s c) marks (Some (Crossed again crossing))
+    crossed_down n m l = let k = two_cross n m in
+        (k.1.opened, omega (arith, k.2), (k.1.stands, k.1.across), (k.0.stands, k.0.across))

@@ -12,7 +12,7 @@ use Rattle.moves.specs.Listing.{Carried}
 use Rattle.moves.specs.Stepping.{Died}
 use Rattle.moves.proofs.Dying.{died_after}
 use Rattle.gather.specs.Gathering.{is_wide}
-use Rattle.tie.specs.Tying.{Tied}
+use Rattle.tie.specs.Tying.{Tied, Tying, Tieable}
 use Rattle.meet.specs.Meeting.{Readable}
 use Rattle.meet.specs.Looking.{Lookable, Looking}
 use Rattle.meet.specs.Places.{clause_at, Placed, Unmet, Comparing, FirstAt, FacedBy, ClearOf}
@@ -28,6 +28,12 @@ use Rattle.notes.specs.declared.Notes.{Notes}
 module _ {st : Tally} {wk : Notes} {st' : Tally} {wk' : Notes} (c : Carried st wk st' wk') (ix : Index) where
   pub clause_carried : (i : ℕ) → near_from ≤ i → clause_at ix wk i ≡ clause_at ix wk' i
   clause_carried i h = ap (clause_of ix) (sym (c.gathered i h))
+
+  pub placed_carried : {a b : ℕ} → Placed ix wk a b → Placed ix wk' a b
+  placed_carried p = record { late = p.late; room = p.room; inside = λ i l h. rw (c.gathered i (omega (arith, p.late))) (p.inside i l h) }
+
+pub placed_within : {ix : Index} {wk : Notes} {a b c d : ℕ} → Placed ix wk a b → a ≤ c → d ≤ b → Placed ix wk c d
+placed_within p l r = record { late = omega (arith, p.late); room = omega (arith, p.room); inside = λ i x y. p.inside i (omega arith) (omega arith) }
 
 -- those before place k were looked at
 pub record Rows (ix : Index) (st : Tally) (wk : Notes) (g a b : ℕ) (st' : Tally) (wk' : Notes) (k : ℕ) : Type 0 where
@@ -47,6 +53,12 @@ rows_begin c = record {
 module _ {ix : Index} {st : Tally} {wk : Notes} {g a b : ℕ} {st' : Tally} {wk' : Notes} {k : ℕ} (o : Rows ix st wk g a b st' wk' k) where
   lookable : Lookable ix st' wk'
   lookable = o.looking.at.lookable
+
+  pub rows_ask : Comparing ix st' wk' g k b
+  rows_ask = record { lookable = lookable; placed = placed_within (placed_carried o.looking.carried ix o.placed) o.from (omega arith); inside = o.inside }
+
+  pub rows_tie : (low high : ℕ) → Tying ix st' low high → Tieable ix st' wk' low high
+  rows_tie low high t = record { tying = t; sound = lookable.sound; distinct = lookable.distinct; blocks = lookable.blocks }
 
   -- those from place k to i do not meet the clause
   further : (i : ℕ) → ((j : ℕ) → k ≤ j → j < i → Unmet ix st' wk' g j) → Looking (Row ix wk g a i) ix st wk st' wk'

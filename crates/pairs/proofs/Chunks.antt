@@ -12,11 +12,11 @@ use Rattle.occurrences.specs.Index.{clause_of}
 use Rattle.tally.specs.Tally.{state_in}
 use Rattle.pairs.specs.declared.Range.{Range}
 use Rattle.meet.specs.Looking.{Looking}
-use Rattle.meet.specs.Places.{number_at, clause_at, RowOf}
-use Rattle.pairs.specs.Seen.{SeenAll, MayMeet, FirstRow}
+use Rattle.meet.specs.Places.{number_at, clause_at, RowOf, Comparing}
+use Rattle.pairs.specs.Seen.{SeenAll, MayMeet, FirstRow, Seeing}
 use Rattle.pairs.specs.Sides.{Facing, FacingOf, Chunkable, NextRow}
 use Rattle.meet.proofs.Looking.{looking_as, looking_none, looking_then}
-use Rattle.meet.proofs.Rows.{clause_carried}
+use Rattle.meet.proofs.Rows.{clause_carried, placed_carried, placed_within}
 use Rattle.occurrences.specs.declared.Index.{Index}
 use Rattle.tally.specs.declared.Tally.{Tally}
 use Rattle.notes.specs.declared.Notes.{Notes}
@@ -36,6 +36,16 @@ row_more {ix} {st} {wk} {seen} {i = i} o more g is set m z = record {
 }
 
 module _ {ix : Index} {st : Tally} {wk : Notes} {rows chunk : Range} (c : Chunkable ix st wk rows chunk) where
+  pub chunk_seeing : Seeing ix st wk chunk.from chunk.to
+  chunk_seeing = record { index = c.lookable.sound.index; exact = c.lookable.sound.exact; classes = c.lookable.sound.classes; placed = c.chunk }
+
+  pub rows_seeing : Seeing ix st wk rows.from rows.to
+  rows_seeing = record { index = c.lookable.sound.index; exact = c.lookable.sound.exact; classes = c.lookable.sound.classes; placed = c.placed }
+
+  -- the first row itself
+  pub next_alone : NextRow ix st wk rows chunk rows.from
+  next_alone = record { from = omega arith; within = c.ordered; apart = λ i a b. absurd (omega arith) }
+
   pub next_seen : {seen : List ℕ} → SeenAll ix st wk chunk.from chunk.to seen → {r : ℕ} → FirstRow ix st wk seen rows.from rows.to r → NextRow ix st wk rows chunk r
   next_seen s f = record {
     from = f.from;
@@ -61,6 +71,15 @@ chunks_begin k = record {
 }
 
 module _ {ix : Index} {st : Tally} {wk : Notes} {rows chunk : Range} {st' : Tally} {wk' : Notes} {from : ℕ} (o : Chunks ix st wk rows chunk st' wk' from) where
+  pub chunks_ask : Chunkable ix st' wk' (record { from = from; to = rows.to }) chunk
+  chunks_ask = record {
+    lookable = o.looking.at.lookable;
+    ordered = o.within;
+    placed = placed_within (placed_carried o.looking.carried ix o.able.placed) o.begun (omega arith);
+    others_ordered = o.able.others_ordered;
+    chunk = placed_carried o.looking.carried ix o.able.chunk;
+  }
+
   module _ (i : ℕ) (n : NextRow ix st' wk' (record { from = from; to = rows.to }) chunk i) where
     -- the rows to place i meet none
     further : Looking (Facing ix wk rows.from i chunk.from chunk.to) ix st wk st' wk'
@@ -76,6 +95,9 @@ module _ {ix : Index} {st : Tally} {wk : Notes} {rows chunk : Range} {st' : Tall
 
     pub chunks_end : rows.to ≤ i → FacingOf ix st wk rows chunk st' wk' false
     chunks_end h = looking_as (λ l. looked_by l (λ c d p q u m ((x, a, b, e), f). ((x, a, omega arith, e), f))) further
+
+    pub chunks_row : i < rows.to → (g : ℕ) → g ≡ number_at wk' i → Comparing ix st' wk' g chunk.from chunk.to
+    chunks_row more g is = record { lookable = o.looking.at.lookable; placed = chunks_ask.chunk; inside = rw is (chunks_ask.placed.inside i n.from more) }
 
     pub chunks_go : i < rows.to → (g : ℕ) → g ≡ number_at wk' i → {st'' : Tally} {wk'' : Notes} → RowOf ix st' wk' g chunk.from chunk.to st'' wk'' false →
         Chunks ix st wk rows chunk st'' wk'' (i + 1)
@@ -109,6 +131,15 @@ parts_begin k = record {
 }
 
 module _ {ix : Index} {st : Tally} {wk : Notes} {rows others : Range} {st' : Tally} {wk' : Notes} {from : ℕ} (o : Parts ix st wk rows others st' wk' from) where
+  pub parts_ask : (to : ℕ) → from < to → to ≤ others.to → Chunkable ix st' wk' rows (record { from = from; to = to })
+  parts_ask to more within = record {
+    lookable = o.looking.at.lookable;
+    ordered = o.able.ordered;
+    placed = placed_carried o.looking.carried ix o.able.placed;
+    others_ordered = omega arith;
+    chunk = placed_within (placed_carried o.looking.carried ix o.able.chunk) o.begun within;
+  }
+
   pub parts_go : (to : ℕ) → from < to → {st'' : Tally} {wk'' : Notes} → FacingOf ix st' wk' rows (record { from = from; to = to }) st'' wk'' false →
       Parts ix st wk rows others st'' wk'' to
   parts_go to more d = record {
@@ -135,6 +166,9 @@ module _ {ix : Index} {st : Tally} {wk : Notes} {rows others : Range} (c : Chunk
   turned = record { lookable = c.lookable; ordered = c.others_ordered; placed = c.chunk; others_ordered = c.ordered; chunk = c.placed }
 
   module _ (one : rows.to - rows.from ≡ 1) (g : ℕ) (is : g ≡ number_at wk rows.from) where
+    pub one_row : Comparing ix st wk g others.from others.to
+    one_row = record { lookable = c.lookable; placed = c.chunk; inside = rw is (c.placed.inside rows.from (omega arith) (omega (arith, c.ordered))) }
+
     pub one_facing : (st' : Tally) (wk' : Notes) (r : Bool) → RowOf ix st wk g others.from others.to st' wk' r → FacingOf ix st wk rows others st' wk' r
     one_facing st' wk' true d = d
     one_facing st' wk' false d = looking_as

@@ -20,7 +20,7 @@ use Rattle.occurrences.proofs.Slices.{member_literal}
 use Rattle.tally.specs.Tally.{state_in, count_in}
 use Rattle.gather.specs.Gathering.{is_wide}
 use Rattle.meet.specs.Places.{number_at, clause_at}
-use Rattle.pairs.specs.Seen.{chunk_size, Seen, IsSeen, SeenIn, Seeable, SeenBy, SeenAll}
+use Rattle.pairs.specs.Seen.{chunk_size, Seen, IsSeen, SeenIn, Seeable, SeenBy, SeenAll, Seeing}
 use Rattle.meet.proofs.Clauses.{wide_open, code_high}
 use Rattle.meet.proofs.Widths.{not_wide}
 use Rattle.occurrences.specs.declared.Index.{Index}
@@ -66,6 +66,9 @@ pub record Sees (st : Tally) (xs seen : List ℕ) (w : ℕ) (seen' : List ℕ) (
   pub kept : (k x : ℕ) → IsSeen seen k x → IsSeen seen' k x
   pub done : (k : ℕ) → Has w k → (j : ℕ) → j < i → IsSeen seen' k (value_at st xs j)
 
+pub sees_begin : {st : Tally} {xs seen : List ℕ} (w : ℕ) → Sees st xs seen w seen 0
+sees_begin w = record { kept = λ k x h. h; done = λ k h j a. absurd (omega arith) }
+
 pub sees_go : {st : Tally} {xs seen : List ℕ} {w : ℕ} {seen' : List ℕ} {i : ℕ} → Sees st xs seen w seen' i → Seen seen' → (x : ℕ) → x < codes →
     x ≡ value_at st xs i → Sees st xs seen w (with_seen seen' x w) (i + 1)
 sees_go {st} {xs} {w = w} {seen'} {i} o long x low is = record {
@@ -82,6 +85,13 @@ sees_end s are o h = record {
   kept = o.kept;
   all = λ w k b y m. let j = standing_placed s are y m in rw j.2 at (o.done k b j.0 (omega (arith, j.1)));
 }
+
+-- those of a chunk can be seen, and at the start none has to be
+pub sees_all_ask : {ix : Index} {st : Tally} {wk : Notes} {a b i : ℕ} → Seeing ix st wk a b → a ≤ i → i < b → (g : ℕ) → g ≡ number_at wk i → Seeable ix st g
+sees_all_ask {i = i} k f l g is = record { index = k.index; exact = k.exact; classes = k.classes; inside = rw is (k.placed.inside i f l) }
+
+pub sees_all_begin : {ix : Index} {st : Tally} {wk : Notes} {a : ℕ} {seen : List ℕ} → SeenAll ix st wk a a seen
+sees_all_begin = record { all = λ j f l. absurd (omega arith) }
 
 -- those of a chunk: the literals of the ones before place i are seen
 module _ {ix : Index} {st : Tally} {wk : Notes} {a : ℕ} {seen : List ℕ} {i : ℕ} (o : SeenAll ix st wk a i seen) where

@@ -26,7 +26,7 @@ use Rattle.notes.specs.Notes.{near_from, far_from}
 use Rattle.moves.specs.Listing.{ListsIn, SpansIn}
 use Rattle.gather.specs.declared.Sign.{Sign}
 use Rattle.gather.specs.declared.Sign.TheVariants.{Positive, Negative}
-use Rattle.gather.specs.Gathering.{is_signed, Beside, Collected, GatheredAlong}
+use Rattle.gather.specs.Gathering.{is_signed, Beside, Collected, GatheredAlong, Collecting, Gatherable}
 use Rattle.gather.proofs.Collects.{beside_trans}
 use Rattle.gather.proofs.Written.{wide_in}
 use Rattle.meet.specs.Looking.{Lookable, LookOf}
@@ -46,7 +46,10 @@ module _ {ix : Index} {st : Tally} {wk : Notes} (l : Lookable ix st wk) (block :
     inside : block.first ≤ max_variables
     inside = ⊎_elim (λ (z, h). h) (λ k. absurd (omega (arith, k.positive))) spans
 
-    signs_side : {P : Clause → Type 0} (s : Sign) (k : ℕ) → k < 2 → is_signed s k ≡ true → (y : Literal) → literal_at (2 * block.first + k) ≡ y →
+    pub signs_ask : (start : ℕ) → start ≤ far_from → Collecting ix wk block.first start
+    signs_ask start h = record { index = l.sound.index; inside = inside; room = omega (arith, l.sound.index.ends (block.first + 1) (omega (arith, inside))) }
+
+    pub signs_side : {P : Clause → Type 0} (s : Sign) (k : ℕ) → k < 2 → is_signed s k ≡ true → (y : Literal) → literal_at (2 * block.first + k) ≡ y →
         ((c : Clause) → P c → Memᴰ y c) → {start : ℕ} {wk' : Notes} {end : ℕ} → Collected ix st wk block.first start s wk' end → SideOf P ix st wk start wk' end
     signs_side s k h t y e holds a = record {
       grew = a.grew;
@@ -69,20 +72,23 @@ module _ {ix : Index} {st : Tally} {wk : Notes} (l : Lookable ix st wk) (block :
     far_signs = let p = Neg block.first in signs_side Negative 1 (omega arith) refl p (literal_at_code_of p) (λ c (g, r). (lists_signs zero r).1)
 
   -- a stretch
-  module _ (positive : block.last ≢ 0) where
-    sides : Sides st.links st.values block.first block.last block.from block.to
-    sides = ⊎_elim (λ (z, h). absurd (positive z)) (λ k. k) spans
+  pub stretch_ask : {a b : ℕ} {m : List ℕ} → Stretch st.links st.values a b m → (start : ℕ) → start ≤ far_from → Gatherable ix st wk a b start
+  stretch_ask {m = m} s start h = record { index = l.sound.index; room = h; stretch = (m, s) }
 
-    stretch_side : {a b : ℕ} {m : List ℕ} → Stretch st.links st.values a b m → {P : Clause → Type 0} → ((c : Clause) → P c → Reaches (b ∷ m) c) →
-        {start : ℕ} {wk' : Notes} {end : ℕ} → GatheredAlong ix st wk a b start wk' end → SideOf P ix st wk start wk' end
-    stretch_side {m = m} s reaches k = record {
-      grew = k.grew;
-      few = k.few;
-      beside = k.beside;
-      kept = k.kept;
-      inside = k.inside;
-      all = λ g w p. k.all m s g w (reaches (clause_of ix g) p);
-    }
+  pub stretch_side : {a b : ℕ} {m : List ℕ} → Stretch st.links st.values a b m → {P : Clause → Type 0} → ((c : Clause) → P c → Reaches (b ∷ m) c) →
+      {start : ℕ} {wk' : Notes} {end : ℕ} → GatheredAlong ix st wk a b start wk' end → SideOf P ix st wk start wk' end
+  stretch_side {m = m} s reaches k = record {
+    grew = k.grew;
+    few = k.few;
+    beside = k.beside;
+    kept = k.kept;
+    inside = k.inside;
+    all = λ g w p. k.all m s g w (reaches (clause_of ix g) p);
+  }
+
+  module _ (positive : block.last ≢ 0) where
+    pub sides : Sides st.links st.values block.first block.last block.from block.to
+    sides = ⊎_elim (λ (z, h). absurd (positive z)) (λ k. k) spans
 
     pub near_stretch : {wk' : Notes} {end : ℕ} → GatheredAlong ix st wk block.first block.last near_from wk' end → SideOf (near_side st block) ix st wk near_from wk' end
     near_stretch = stretch_side sides.near_is (λ c (h, r). (lists_sides sides r).0)

@@ -42,6 +42,9 @@ pub record Touches (st : Tally) (xs seen : List ℕ) (crossed once twice i : ℕ
   pub one : (k j : ℕ) → j < i → Has (touched seen (value_at st xs j)) k → Has once k
   pub two : (k j l : ℕ) → j < i → l < i → j ≢ l → Has (touched seen (value_at st xs j)) k → Has (touched seen (value_at st xs l)) k → Has twice k
 
+pub touches_begin : {st : Tally} {xs seen : List ℕ} → Touches st xs seen 0 0 0 0
+touches_begin = record { crosses = λ k j a. absurd (omega arith); one = λ k j a. absurd (omega arith); two = λ k j l a. absurd (omega arith) }
+
 module _ {st : Tally} {xs seen : List ℕ} {crossed once twice i : ℕ} (o : Touches st xs seen crossed once twice i) where
   pub touches_go : (x y : ℕ) → x ≡ value_at st xs i → y ≡ code_of (opposite (literal_at x)) → (a b : ℕ) → a ≡ get_or seen y 0 →
       b ≡ bit_or (get_or seen x 0) a → Touches st xs seen (bit_or crossed a) (bit_or once b) (bit_or twice (bit_and once b)) (i + 1)
@@ -73,7 +76,7 @@ module _ {st : Tally} {xs seen : List ℕ} {crossed once twice i : ℕ} (o : Tou
         (λ m. has_or_left (get_or seen x 0) (across seen x) k (rw e (seen_in y m)))
         (λ m. has_or_right (get_or seen x 0) (across seen x) k (across_seen y x e m))
 
-    touches_both : {a b : Literal} → Meets Wide (standing (state_in st) (clause_of ix g)) (standing (state_in st) h) a b → Has (bit_and crossed twice) k
+    pub touches_both : {a b : Literal} → Meets Wide (standing (state_in st) (clause_of ix g)) (standing (state_in st) h) a b → Has (bit_and crossed twice) k
     touches_both {a} {b} m =
         let l = standing_placed s are a m.left in
         let j = standing_placed s are b m.crossing in

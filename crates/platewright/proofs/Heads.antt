@@ -24,6 +24,9 @@ use Rattle.platewright.specs.Heads.{start_of, entries_of, paired, indexed}
 abbrev pub Storing : (Head → ℕ) → ℕ → List ℤ → List ℕ → List ℕ → ℕ → ℕ → Type 0
 Storing f count t l₀ l at k = sets l k (map f (heads_at (count - k) t at)) ≡ sets l₀ 0 (map f (heads_at count t 0))
 
+pub storing_begun : (f : Head → ℕ) (count : ℕ) (t : List ℤ) (l₀ : List ℕ) → Storing f count t l₀ l₀ 0 0
+storing_begun f count t l₀ = let z : count - 0 ≡ count = omega arith in rw z
+
 module _ (f : Head → ℕ) (count : ℕ) (t : List ℤ) (l₀ l : List ℕ) (at k : ℕ) (s : Storing f count t l₀ l at k) where
   pub storing_turned : (x : Next) → x ≡ next_head t at → k < count → Storing f count t l₀ (set l k (f x.head)) x.next (k + 1)
   unfolding heads_at

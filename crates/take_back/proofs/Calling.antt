@@ -21,13 +21,13 @@ module _ (u n : ℕ) (b : List ℤ) (room : u ≤ length b) (passed : check n (t
   length_used : length (take u b) ≡ u
   length_used = length-take-le u b room
 
-  some_used : 0 < length (take u b)
+  pub some_used : 0 < length (take u b)
   some_used = omega (arith, length_used)
 
   pub start_before : last_start (take u b) < u
   start_before = omega (arith, start_inside (take u b) (accepted_closed n (take u b) passed) some_used, length_used)
 
-  call_taken : called (Ok (last_start (take u b))) (cleared (last_start (take u b)) u b) ≡ take_back_call u n b
+  pub call_taken : called (Ok (last_start (take u b))) (cleared (last_start (take u b)) u b) ≡ take_back_call u n b
   unfolding take_back_call
   call_taken =
       let z = last_zeros (last_found (take u b) (accepted_closed n (take u b) passed) some_used) in

@@ -24,6 +24,7 @@ fn last_start(table: &[i16]) -> usize
 }
 
 // Every refusal is known before the first element is cleared, so a refused call changes nothing.
+#[tactic(auto, unfolding(theory::specs::Calls::take_back_call))]
 pub fn take_back(buffer: &mut [i16], used: usize, n: usize) -> Result<usize, Refusal>
     ensures { called result buffer.new ≡ take_back_call used n buffer.old }
 {

@@ -5,12 +5,14 @@ use Prim.Native.Nat.{ℕ, suc, ◌+◌, ◌*◌, ◌≤◌, ◌<◌, zero-le}
 use native.Mathlib.Nat.{mul-suc, mul-le-mul_left}
 use native.Mathlib.Numerals.{add-one}
 use native.Mathlib.Omega.{arith}
+use borrow.Author.Tests.{eq-eqb}
 use lib.ListN.{length, take, get_or}
 use lib.Seq.{take-suc, take_all}
 use Rattle.io.specs.Digits.{last_digits, IsDigitCount}
 use Rattle.literal.specs.declared.ClauseNumber.{ClauseNumber}
 use Rattle.receipt.specs.declared.Fault.{Fault}
 use Rattle.receipt.specs.declared.Fault.TheVariants.{UnknownVariable}
+use Rattle.receipt.specs.Receipt.{number_of, named_clause}
 use Rattle.general.specs.Appending.{Appended}
 use Rattle.text.specs.Text.{codes, decimal, spaced, line, clause_words}
 use Rattle.general.specs.Appending.{append_nothing, append_both}
@@ -45,6 +47,11 @@ words_appended a b f s = rw (spaced_append a b) (append_both f s)
 pub line_appended : {l₀ l₁ l₂ l₃ : List ℕ} {at p q r : ℕ} (w : List ℕ) (ws : List (List ℕ)) → Appended l₀ at w l₁ p → Appended l₁ p (spaced ws) l₂ q →
     Appended l₂ q (codes "\n") l₃ r → Appended l₀ at (line w ws) l₃ r
 line_appended w ws a b c = append_both a (append_both b c)
+
+-- the group of a refusal, where its number is 5
+pub clause_appended : {l₀ l₁ : List ℕ} {at p : ℕ} (why : Fault) → number_of why ≡ 5 → Appended l₀ at (spaced (decimal (named_clause why).0 ∷ [])) l₁ p →
+    Appended l₀ at (spaced (clause_words why)) l₁ p
+clause_appended why e a = rw (eq-eqb (number_of why) 5 e) a
 
 -- a refusal names no group, but for one number
 names_none : (why : Fault) → ((k : ClauseNumber) → why ≡ UnknownVariable k → ⊥) → clause_words why ≡ []

@@ -11,6 +11,18 @@ use Rattle.notes.proofs.Blocks.{block_there, block_kept}
 use Rattle.tie.specs.Listing.{ListedBy}
 use Rattle.notes.specs.declared.Notes.{Notes}
 
+pub listed_none : {wk : Notes} {n : ℕ} {b : Block} → n ≡ 0 → ListedBy wk n b wk
+listed_none z = record {
+  todo = refl;
+  todo_end = refl;
+  gathered = refl;
+  grows = omega arith;
+  one = omega arith;
+  kept = λ i h. refl;
+  only = λ i h. inl h;
+  listed = λ h. absurd (omega arith);
+}
+
 pub listed_last : {wk : Notes} {n : ℕ} {b : Block} → length wk.blocks ≡ max_blocks → wk.blocks_end < max_blocks →
     ListedBy wk n b (with_blocks_end (wk.blocks_end + 1) (with_block wk.blocks_end b wk))
 listed_last {wk} {b = b} long low = record {

@@ -25,7 +25,7 @@ use Rattle.tally.specs.Tally.{state_in, count_in}
 use Rattle.tally.specs.Counts.{trues_of, opens_of, Exact}
 use Rattle.tally.proofs.Standing.{opens_standing, trues_standing}
 use Rattle.notes.specs.declared.Block.{Block}
-use Rattle.notes.specs.Notes.{block_at, Gathered}
+use Rattle.notes.specs.Notes.{block_at, Gathered, max_blocks}
 use Rattle.moves.specs.Sound.{Sound}
 use Rattle.moves.specs.Moving.{Noting, Moved}
 use Rattle.moves.specs.Listing.{ListsIn, Listed, SpansIn, Blocks, Carried}
@@ -124,6 +124,9 @@ module _ {ix : Index} {st : Tally} {wk : Notes} {low high : ℕ} (d : Tieable ix
       module _ {wk₀ : Notes} {n : ℕ} (k : Gathering ix st wk (high / 2) wk₀ n) {wk₁ : Notes} {m : ℕ} (b : Kept (WideWith ix st (low / 2)) wk₀ n wk₁ m) where
         beside : Beside wk wk₁
         beside = beside_trans k.beside b.beside
+
+        pub tying_room : wk₁.blocks_end < max_blocks
+        tying_room = omega (arith, beside.blocks_end, s.blocks_room, j.fewer)
 
         module _ {wk₂ : Notes} (p : ListedBy wk₁ n (block_between st (high / 2) (low / 2)) wk₂) where
           same_todo_end : wk₂.todo_end ≡ wk.todo_end

@@ -16,9 +16,9 @@ use Rattle.tally.specs.Tally.{state_in}
 use Rattle.moves.specs.Moving.{Moved}
 use Rattle.moves.proofs.Moves.{moved_refl, moved_trans, went_trans}
 use Rattle.moves.proofs.Dying.{died_fallen}
-use Rattle.gather.specs.Gathering.{Gathering}
-use Rattle.gather.proofs.Besides.{beside_went}
-use Rattle.undouble.specs.Doubling.{Once, Undoubled, DoublingAll, UndoubledAll, OpenRoot, DoublesOf}
+use Rattle.gather.specs.Gathering.{Gathering, AtRoot}
+use Rattle.gather.proofs.Besides.{beside_went, sound_root, beside_sound}
+use Rattle.undouble.specs.Doubling.{Once, Undoubled, DoublingAll, UndoubledAll, OpenRoot, DoublesOf, Doubling}
 use Rattle.occurrences.specs.declared.Index.{Index}
 use Rattle.tally.specs.declared.Tally.{Tally}
 use Rattle.notes.specs.declared.Notes.{Notes}
@@ -46,6 +46,9 @@ module _ {ix : Index} {st : Tally} {wk : Notes} {n r : ℕ} (d : DoublingAll ix 
       it : g ≡ get_or wk.gathered i 0
       it = is ∙ ap (λ (l : List ℕ). get_or l i 0) w.moved.gathered
 
+      pub along_asks : Doubling ix st' wk' g r
+      along_asks = record { sound = w.moved.went.sound; clause = rw it (d.clauses i h); positive = d.positive; inside = d.inside }
+
       module _ {st'' : Tally} {wk'' : Notes} where
         pub along_dies : Undoubled ix st' wk' g r st'' wk'' true → UndoubledAll ix st wk n r st'' wk'' true
         along_dies u = record { fell = died_fallen w.path u.fell; once = λ e. absurd (true_not_false refl e) }
@@ -61,8 +64,14 @@ module _ {ix : Index} {st : Tally} {wk : Notes} {n r : ℕ} (d : DoublingAll ix 
           ];
         }
 
+pub doubles_gather : {ix : Index} {st : Tally} {wk : Notes} {r : ℕ} → OpenRoot ix st wk r → AtRoot ix st r
+doubles_gather o = sound_root o.sound o.positive o.inside o.root
+
 -- all clauses: those that were not gathered hold r nowhere
 module _ {ix : Index} {st : Tally} {wk : Notes} {r : ℕ} (o : OpenRoot ix st wk r) {wk' : Notes} {n : ℕ} (k : Gathering ix st wk r wk' n) where
+  pub doubles_all : DoublingAll ix st wk' n r
+  doubles_all = record { sound = beside_sound o.sound k.beside; few = k.few; clauses = k.inside; positive = o.positive; inside = o.inside }
+
   pub doubles_done : (st'' : Tally) (wk'' : Notes) (b : Bool) → UndoubledAll ix st wk' n r st'' wk'' b → DoublesOf ix st wk r st'' wk'' b
   doubles_done st'' wk'' true u = u.fell
   doubles_done st'' wk'' false u = (

@@ -64,6 +64,9 @@ module _ {ix : Index} {g r : ℕ} (d : Signable ix g r) (st : Tally) {cs : List 
   }
 
   module _ {plus minus i : ℕ} (w : Signing ix st g r cs plus minus i) where
+    pub signing_low : i ≤ length cs → plus + minus ≤ 2 * max_table
+    signing_low h = omega (arith, w.plus_few, w.minus_few, w.short)
+
     pub signing_goes : i < length cs → (v : ℕ) → v ≡ code_of (value (state_in st) (literal_at (get_or cs i 0))) →
         Signing ix st g r cs (plus + bool_byte (eqb v (2 * r))) (minus + bool_byte (eqb v (2 * r + 1))) (i + 1)
     signing_goes h v e = rw (byte_bit (eqb v (2 * r)), byte_bit (eqb v (2 * r + 1))) (record {

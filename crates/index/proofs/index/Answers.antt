@@ -5,16 +5,16 @@ use Rattle.index.proofs.Heads.{Stored, index_stored, stored_turned, stored_ended
 use Rattle.index.proofs.index.Goals as goal
 use Rattle.index.proofs.index.Goals.{In_ok-due}
 
+pub returns-in_err-due : goal.returns-in_err-due
+returns-in_err-due c =
+    let e : c.from_residual.result ≡ Err c.in_err-due.field-0.0 = search rules in
+    rw e (rw (sym c.due_of.ensures ∙ c.in_err-due.was) at (index_stored c.args.n c.args.table.now c.args.heads.now))
+
 due : (c : In_ok-due) → Stored c.args.n c.args.table.now c.args.heads.now (Ok c.in_ok-due.due)
 due c = rw (sym c.due_of.ensures ∙ c.in_ok-due.was) at (index_stored c.args.n c.args.table.now c.args.heads.now)
 
 lent : (c : In_ok-due) → length (take c.in_ok-due.due c.args.heads.now) ≡ c.in_ok-due.due
 lent c = length-take-le c.in_ok-due.due c.args.heads.now (due c).0
-
-pub returns-in_err-due : goal.returns-in_err-due
-returns-in_err-due c =
-    let e : c.from_residual.result ≡ Err c.in_err-due.field-0.0 = search rules in
-    rw e (rw (sym c.due_of.ensures ∙ c.in_err-due.was) at (index_stored c.args.n c.args.table.now c.args.heads.now))
 
 pub slice_bounds-head-items-end : goal.slice_bounds-head-items-end
 slice_bounds-head-items-end c = (due c).0

@@ -21,7 +21,7 @@ returns-then-size-eq0 c =
     let r = c.requires in
     let k : c.loop-i.i ≡ suc (c.loop-i.i - 1) = omega (arith, c.loop-i-test.true) in
     let z = eq-eqb _ 0 (sym (sized (goal.at.returns-then-size-eq0 c).After-size) ∙ c.if-size-eq0.true) in
-    rw add-one (sym (start_zero c.args.table.now r.table_value r.table_nonzero (c.loop-i.i - 1) (rw k at c.loop-i.invariant) z))
+    add-one _ ∙ sym (start_zero c.args.table.now r.table_value r.table_nonzero (c.loop-i.i - 1) (rw k at c.loop-i.invariant) z)
 
 pub loop-i-preserved : goal.loop-i-preserved
 loop-i-preserved c =

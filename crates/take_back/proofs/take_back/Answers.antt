@@ -10,12 +10,6 @@ use Rattle.take_back.proofs.Calling.{start_before, call_cleared}
 use Rattle.take_back.proofs.take_back.Goals as goal
 use Rattle.take_back.proofs.take_back.Goals.{After-last_start-start}
 
--- the group begins before the end of the used part
-within : (c : After-last_start-start) → (c.last_start-start.result < c.args.used) × (c.args.used ≤ length c.args.buffer.now)
-within c =
-    let room = (most_passes _ _ UsedLengthWrong).0 (sym c.at_most.ensures ∙ c.in_ok-at_most.was) in
-    (rw c.last_start-start.ensures (start_before _ _ _ room (sym c.check_table.ensures ∙ c.in_ok-check_table.was) (omega (arith, c.if-used-eq0.false))), room)
-
 pub returns-in_err-at_most : goal.returns-in_err-at_most
 unfolding take_back_call
 returns-in_err-at_most c =
@@ -33,6 +27,12 @@ unfolding take_back_call zeros
 returns-then-used-eq0 c =
     rw (c.new.ensures, sym c.at_most.ensures ∙ c.in_ok-at_most.was, sym c.check_table.ensures ∙ c.in_ok-check_table.was, c.if-used-eq0.true)
 
+-- the group begins before the end of the used part
+within : (c : After-last_start-start) → (c.last_start-start.result < c.args.used) × (c.args.used ≤ length c.args.buffer.now)
+within c =
+    let room = (most_passes _ _ UsedLengthWrong).0 (sym c.at_most.ensures ∙ c.in_ok-at_most.was) in
+    (rw c.last_start-start.ensures (start_before _ _ _ room (sym c.check_table.ensures ∙ c.in_ok-check_table.was) (omega arith)), room)
+
 pub last_start-start-requires-clause-table_value : goal.last_start-start-requires-clause-table_value
 last_start-start-requires-clause-table_value c = accepted_closed _ _ (sym c.check_table.ensures ∙ c.in_ok-check_table.was)
 
@@ -46,5 +46,5 @@ pub returns : goal.returns
 returns c =
     let a = c.args in
     let room = (within (goal.at.returns c).After-last_start-start).1 in
-    call_cleared a.used a.n a.buffer.now room (sym c.check_table.ensures ∙ c.in_ok-check_table.was) (omega (arith, c.if-used-eq0.false))
+    call_cleared a.used a.n a.buffer.now room (sym c.check_table.ensures ∙ c.in_ok-check_table.was) (omega arith)
     _ c.last_start-start.ensures _ c.clear.ensures
