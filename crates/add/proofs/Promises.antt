@@ -11,7 +11,7 @@ use Rattle.general.specs.Search.{First}
 use Rattle.literal.specs.Literal.{literal_of, max_clauses, max_literals}
 use Rattle.receipt.specs.Receipt.{unknown_variable, refusal, receipt, pass}
 use Rattle.receipt.specs.Answers.{adding_receipt, added_length}
-use Rattle.std.specs.Prelude.{Result, Ok, Err}
+use Rattle.std.specs.Prelude.{Result, Err}
 use Rattle.receipt.specs.declared.Fault.TheVariants.{TooManyClauses, TooManyLiterals, UsedLengthWrong, TableShort}
 use Rattle.receipt.specs.declared.Refusal.{Refusal}
 use Rattle.theory.specs.Calls.{AddCall, add_refused, is_wrong, unknown_in, added_call, check_group, check_added, add_call}

@@ -63,12 +63,39 @@ pub record Counted (t : List ℤ) (s : Pass) : Type 0 where
   pub literals : s.literals ≡ nonzeros t
   pub clause : (clause_next s).0 ≡ zeros t + 1
 
-pub counts_exact : (n : ℕ) (t : List ℤ) (s : Pass) → s ≡ after (begin n) t → verdict s ≡ pass → Counted t s
-counts_exact n t s gone q =
+pub counted_after : (n : ℕ) (t : List ℤ) (s : Pass) → s ≡ after (begin n) t → verdict s ≡ pass → Counted t s
+counted_after n t s gone q =
     let e : check n t ≡ pass = sym (ap verdict gone ∙ verdict_check n t) ∙ q in
     let z : zeros t < enough_clauses = omega (arith, (accepted_sizes n t e).clauses) in
     let k : (after (begin n) t).clauses ≡ zeros t = clauses_exact n t e in
     record { clauses = rw (gone, k); literals = rw (gone, literals_exact n t e); clause = rw (gone, k, lt-ltb (zeros t) enough_clauses z) }
+
+-- the checks after that of the used part t, which ask only where it passes, by the counts of the state after it
+module _ (u n : ℕ) (g t : List ℤ) where
+  -- two and one, and as the definition has them
+  abbrev by_counts : ℕ → ℕ → ℕ → Checked
+  by_counts z y k = first_of (first_of (at_most (z + 1) max_clauses TooManyClauses) (at_most (y + length g) max_literals TooManyLiterals)) (unknown_in u k n g)
+
+  abbrev in_order : ℕ → ℕ → ℕ → Checked
+  in_order z y k = first_refusal (at_most (z + 1) max_clauses TooManyClauses ∷ at_most (y + length g) max_literals TooManyLiterals ∷ unknown_in u k n g ∷ [])
+
+  ordered : (z y k : ℕ) → by_counts z y k ≡ in_order z y k
+  ordered z y k =
+      let a = at_most (z + 1) max_clauses TooManyClauses in
+      let c = at_most (y + length g) max_literals TooManyLiterals in
+      first_assoc a c (unknown_in u k n g) ∙ ap (λ d. first_of a (first_of c d)) (sym (first_last (unknown_in u k n g)))
+
+  pub counts_exact : let s = after (begin n) t in
+      first_of (check n t) (by_counts s.clauses s.literals (clause_next s).0) ≡ first_of (check n t) (in_order (zeros t) (nonzeros t) (zeros t + 1))
+  counts_exact = go (check n t) refl
+    where
+      go : (k : Checked) → check n t ≡ k →
+          let s = after (begin n) t in
+          first_of k (by_counts s.clauses s.literals (clause_next s).0) ≡ first_of k (in_order (zeros t) (nonzeros t) (zeros t + 1))
+      go (Err r) e = refl
+      go (Ok _) e =
+          let c = counted_after n t (after (begin n) t) refl (verdict_check n t ∙ e) in
+          rw (c.clause, c.clauses, c.literals) (ordered (zeros t) (nonzeros t) (zeros t + 1))
 
 -- all checks pass exactly when the list may follow the used part --------------------------------------------------
 

@@ -19,6 +19,7 @@ pub fn copy<T: Copy>(list: &mut [T], at: usize, from: &[T], n: usize)
     requires n_in_bounds_2 { n ≤ length from.now }
     ensures { list.new ≡ take at list.old ++ (take n from.now ++ drop (at + n) list.old) }
 {
+    // By index: of the library's copy a call of memmove is made, and the archive for C needs memcpy and memset alone.
     for i in 0..n {
         list[at + i] = from[i];
     }

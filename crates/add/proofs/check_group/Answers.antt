@@ -7,7 +7,7 @@ use Rattle.theory.specs.Calls.{unknown_in, check_group}
 use Rattle.theory.proofs.Refusing.{first_last}
 use Rattle.table.specs.Pass.{verdict}
 use Rattle.table.proofs.Passes.{verdict_check}
-use Rattle.add.proofs.Refusals.{Counted, counts_exact}
+use Rattle.add.proofs.Refusals.{Counted, counted_after}
 use Rattle.add.proofs.check_group.Goals as goal
 use Rattle.add.proofs.check_group.Goals.{After-verdict, In_ok-verdict}
 
@@ -17,7 +17,7 @@ checked c = c.verdict.ensures ∙ ap verdict (rw c.begin.ensures at c.after-pass
 
 -- what its counts are where it passes
 counted : (c : In_ok-verdict) → Counted (take c.args.used c.args.buffer.now) c.after-pass.result
-counted c = counts_exact c.args.n _ _ (rw c.begin.ensures at c.after-pass.ensures) (sym c.verdict.ensures ∙ c.in_ok-verdict.was)
+counted c = counted_after c.args.n _ _ (rw c.begin.ensures at c.after-pass.ensures) (sym c.verdict.ensures ∙ c.in_ok-verdict.was)
 
 pub returns-in_err-at_most : goal.returns-in_err-at_most
 unfolding check_group
